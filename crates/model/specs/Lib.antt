@@ -1,0 +1,11 @@
+pub mod Limits
+pub mod Lists
+pub mod Scenes
+pub mod Moves
+pub mod Masks
+pub mod Refusals
+pub mod Contents
+pub mod Calls
+pub mod Charts
+pub mod Parts
+pub mod Shelves

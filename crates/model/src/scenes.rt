@@ -1,0 +1,1 @@
+ghost use mathlib.Core.Path.{_≡_};
