@@ -7,5 +7,6 @@ pub mod Refusals
 pub mod Contents
 pub mod Calls
 pub mod Charts
+pub mod Ranks
 pub mod Parts
 pub mod Shelves
