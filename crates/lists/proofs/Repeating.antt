@@ -5,8 +5,9 @@ use mathlib.Core.Bool.{Bool, true, false, _||_}
 use mathlib.Core.List.{List, [], _∷_}
 use native.Mathlib.Omega.{arith}
 use lib.ListN.{length, getD}
+use Rattle.std.proofs.shelf.Tests.{false≢true, or-right}
 use Rattle.model.specs.Lists.{some, repeats}
-use Rattle.model.proofs.Tests.{absurd, no-true, or-right, some-at, some-found}
+use Rattle.model.proofs.Tests.{absurd, some-at, some-found}
 use Rattle.lists.specs.Repeats.{Alike, New, Apart, Repeated}
 
 module _ {X : Type 0} (same : X → X → Bool) where
@@ -29,7 +30,7 @@ module _ {X : Type 0} (same : X → X → Bool) where
 
   -- where the test passes there are two such entries
   pub repeats-found : (xs : List X) → repeats same xs ≡ true → (j : ℕ) × (i : ℕ) × (j < i) × (i < length xs) × Alike same xs j i
-  repeats-found [] e = absurd (no-true e)
+  repeats-found [] e = absurd (false≢true e)
   repeats-found (x ∷ xs) e = by x xs (some (same x) xs) refl e (λ h. repeats-found xs h)
 
   decided : (b : Bool) → (b ≡ true → ⊥) → b ≡ false

@@ -5,26 +5,16 @@ use mathlib.Core.Bool.{Bool, true, false, cond, _||_}
 use mathlib.Core.Logic.{_⊎_, inl, inr}
 use mathlib.Core.List.{List, [], _∷_, map}
 use native.Mathlib.Omega.{arith}
+use lib.Dec.{ltb}
 use lib.ListN.{length, getD, drop}
 use Rattle.std.proofs.shelf.Lists.{at-drop-more, drop-more}
+use Rattle.std.proofs.shelf.Tests.{false≢true, or-parts, or-from, or-right}
+use Rattle.std.proofs.shelf.Ways.{tells}
+use Rattle.model.specs.Limits.{outside}
 use Rattle.model.specs.Lists.{In, every, some, some-two}
 
 pub absurd : {A : Type 0} → ⊥ → A
 absurd e = elim e [ ]
-
-pub no-true : false ≡ true → ⊥
-no-true e = let z : _≡_ {A = ℕ} 0 1 = cc in omega arith
-
-pub or-right : (a b : Bool) → b ≡ true → (a || b) ≡ true
-or-right true b e = refl
-or-right false b e = e
-
-pub or-none : (a b : Bool) → (a || b) ≡ false → (a ≡ false) × (b ≡ false)
-or-none true b e = absurd (no-true (sym e))
-or-none false b e = (refl, e)
-
-pub neither : (a b : Bool) → a ≡ false → b ≡ false → (a || b) ≡ false
-neither a b ea eb = rw (ea, eb)
 
 module _ {X : Type 0} where
   -- what is left from i, by the test at i
@@ -48,18 +38,18 @@ module _ {X : Type 0} where
   found-by t x xs false h e later = (suc (later e .0), omega (arith, later e .1), later e .2)
 
   pub some-found : (t : X → Bool) (xs : List X) → some t xs ≡ true → (k : ℕ) × (k < length xs) × ((d : X) → t (getD xs k d) ≡ true)
-  some-found t [] e = absurd (no-true e)
+  some-found t [] e = absurd (false≢true e)
   some-found t (x ∷ xs) e = found-by t x xs (t x) refl e (λ h. some-found t xs h)
 
   -- of each element, where the test passes at none
   pub some-none : (t : X → Bool) (xs : List X) → some t xs ≡ false → (x : X) → In x xs → t x ≡ false
   some-none t [] e x h = elim h [ ]
-  some-none t (y ∷ ys) e x (inl h) = ap t h ∙ or-none (t y) (some t ys) e .0
-  some-none t (y ∷ ys) e x (inr h) = some-none t ys (or-none (t y) (some t ys) e .1) x h
+  some-none t (y ∷ ys) e x (inl h) = ap t h ∙ or-parts (t y) (some t ys) e .0
+  some-none t (y ∷ ys) e x (inr h) = some-none t ys (or-parts (t y) (some t ys) e .1) x h
 
   every-in-by : (t : X → Bool) (b : Bool) (r : Bool) → cond b r false ≡ true → (b ≡ true) × (r ≡ true)
   every-in-by t true r e = (refl, e)
-  every-in-by t false r e = absurd (no-true e)
+  every-in-by t false r e = absurd (false≢true e)
 
   -- of each element, where the test passes at each
   pub every-in : (t : X → Bool) (xs : List X) → every t xs ≡ true → (x : X) → In x xs → t x ≡ true
@@ -72,3 +62,14 @@ some-two-more {X} {Y} t xs ys i d f b lx ly e =
     ap (λ (l : List X). some-two t l (drop i ys)) (drop-more xs i d lx)
     ∙ ap (λ (l : List Y). some-two t (getD xs i d ∷ drop (i + 1) xs) l) (drop-more ys i f ly)
     ∙ ap (λ (v : Bool). v || some-two t (drop (i + 1) xs) (drop (i + 1) ys)) (sym e)
+
+-- a number and its limits
+
+pub outside-below : (least most n : ℕ) → n < least → outside least most n ≡ true
+outside-below least most n h = grind (arith, tells)
+
+pub outside-above : (least most n : ℕ) → most < n → outside least most n ≡ true
+outside-above least most n h = or-right (ltb n least) (ltb most n) (grind (arith, tells))
+
+pub outside-within : (least most n : ℕ) → least ≤ n → n ≤ most → outside least most n ≡ false
+outside-within least most n l h = or-from (ltb n least) (ltb most n) (grind (arith, tells)) (grind (arith, tells))
