@@ -1,3 +1,5 @@
 pub mod Faults
 pub mod Flaws
 pub mod Views
+pub mod Slots
+pub mod Rigs

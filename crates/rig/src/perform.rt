@@ -1,0 +1,49 @@
+//! Perform, withdraw and look: the calls that take one number.
+ghost use mathlib.Core.Path.{_≡_};
+ghost use Rattle.model.specs.Calls.{withdraws, withdrawn, performs, performed, looks};
+ghost use Rattle.rig.specs.Faults.{numbered};
+ghost use Rattle.rig.specs.Rigs.{contents};
+use crate::fault::RigFault;
+use crate::frame::Rig;
+use crate::scene::*;
+use crate::slots::*;
+
+impl Rig {
+    /// Carries out a move whose conditions hold, and answers its time in tenths of a second.
+    pub fn perform(&mut self, number: usize) -> Result<u32, RigFault>
+        ensures answer { λ r. ⌜ numbered r ≡ performs (contents (now (self .entry))) number ⌝ }
+        ensures left { λ _. ⌜ contents (now (self .exit)) ≡ performed (contents (now (self .entry))) number ⌝ }
+    {
+        let entry = occupied(self.slots.as_slice(), number)?;
+        let mut scene = self.devices.scene;
+        if !every_holds(entry.conditions.as_slice(), scene.as_slice()) {
+            return Err(RigFault::ConditionUnmet);
+        }
+        let time = entry.time(scene.as_slice());
+        apply(entry.effects.as_slice(), &mut scene);
+        self.devices.scene = scene;
+        Ok(time)
+    }
+
+    /// Makes the slot of a move vacant.
+    pub fn withdraw(&mut self, number: usize) -> Result<(), RigFault>
+        ensures answer { λ r. ⌜ numbered r ≡ withdraws (contents (now (self .entry))) number ⌝ }
+        ensures left { λ _. ⌜ contents (now (self .exit)) ≡ withdrawn (contents (now (self .entry))) number ⌝ }
+    {
+        let _ = occupied(self.slots.as_slice(), number)?;
+        store(self.slots.as_mut_slice(), number, None);
+        Ok(())
+    }
+
+    /// A device's setting and its mask.
+    pub fn look(&self, device: usize) -> Result<(u8, u8), RigFault>
+        ensures { λ r. ⌜ numbered r ≡ looks (contents (now (self .entry))) device ⌝ }
+    {
+        let scene = self.devices.scene.as_slice();
+        let masks = self.devices.masks.as_slice();
+        if device >= scene.len() || device >= masks.len() {
+            return Err(RigFault::DeviceHigh);
+        }
+        Ok((scene[device], masks[device]))
+    }
+}
