@@ -1,0 +1,4 @@
+pub mod Actions
+pub mod Iteration
+pub mod Stops
+pub mod Walks
