@@ -2,3 +2,4 @@
 pub mod Ranks
 pub mod Charting
 pub mod Laws
+pub mod Tests
