@@ -173,7 +173,7 @@ before-tells (i ∷ is) (j ∷ js) h =
     (λ less. inr (record { place = 0; in-first = omega arith; in-second = omega arith; same = refl; smaller = less }))
     (λ on.
     let go : (is ≡ js) ⊎ Smaller is js → (i ∷ is ≡ j ∷ js) ⊎ Smaller (i ∷ is) (j ∷ js) =
-        λ o. ⊎-elim (λ e. inl (λ k. on .0 k ∷ e k)) (λ less. inr (subst (λ x. Smaller (i ∷ is) (x ∷ js)) (on .0) (one-on i is js less))) o in
+    λ o. ⊎-elim (λ e. inl (λ k. on .0 k ∷ e k)) (λ less. inr (subst (λ x. Smaller (i ∷ is) (x ∷ js)) (on .0) (one-on i is js less))) o in
     go (before-tells is js (on .1)))
     h
 
