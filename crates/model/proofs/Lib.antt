@@ -5,3 +5,4 @@ pub mod Lateness
 pub mod Refusing
 pub mod Soundness
 pub mod Laws
+pub mod Tests

@@ -5,13 +5,12 @@ use mathlib.Core.Bool.{Bool, true, false, cond, not, _||_, _&&_}
 use mathlib.Core.List.{List, [], _∷_, _++_, map}
 use lib.Dec.{ltb, leb, eqb}
 use lib.ListN.{length, getD, replicate}
-use Rattle.std.specs.shelf.Lists.{sumBy}
 use Rattle.std.specs.Options.{isSome}
 use Rattle.std.specs.declared.option.Option.{Option}
 use Rattle.std.specs.declared.option.Option.the-variants.{Some, None}
 use Rattle.std.specs.declared.result.Result.{Result}
 use Rattle.model.specs.Limits.{outside, least-byte, most-byte, most-slots, most-conditions, most-effects, most-surcharges, most-tests, most-tenths}
-use Rattle.model.specs.Lists.{every, some, some-two, repeats}
+use Rattle.model.specs.Lists.{total, some, some-two, repeats}
 use Rattle.model.specs.Scenes.{Shape, Scene, shape-off}
 use Rattle.model.specs.Moves.{Pair, Surcharge, Move, all-hold, applied, time}
 use Rattle.model.specs.Masks.{ill, all-of, product-of-ones}
@@ -86,7 +85,7 @@ extra x = x .extra
 
 -- base 0, extra 0, or base and extras above the limit
 abbrev pub times-off : ℕ → List Surcharge → Bool
-times-off base xs = eqb base 0 || (some (λ x. eqb (x .extra) 0) xs || ltb most-tenths (base + sumBy extra xs))
+times-off base xs = eqb base 0 || (some (λ x. eqb (x .extra) 0) xs || ltb most-tenths (base + total extra xs))
 
 abbrev pub move-checks : Shape → Move → List Check
 move-checks ns m = pair-checks ns (pairs-of m) ++ (refuse 10 (lengths-off m) ∷ refuse 11 (times-off (m .base) (m .surcharges)) ∷ [])

@@ -1,5 +1,5 @@
 -- Tests over lists. Assumes nothing.
-use Prim.Native.Nat.{ℕ}
+use Prim.Native.Nat.{ℕ, _+_}
 use mathlib.Core.Bool.{Bool, true, false, cond, _||_}
 use mathlib.Core.List.{List, [], _∷_}
 use mathlib.Core.Logic.{_⊎_}
@@ -9,6 +9,11 @@ use mathlib.Core.Path.{_≡_}
 abbrev pub In : {X : Type 0} → X → List X → Type 0
 In x [] = ⊥
 In x (y ∷ ys) = (x ≡ y) ⊎ In x ys
+
+-- what f gives for each, added up
+abbrev pub total : {X : Type 0} → (X → ℕ) → List X → ℕ
+total f [] = 0
+total f (x ∷ xs) = f x + total f xs
 
 -- the test passes at each element
 abbrev pub every : {X : Type 0} → (X → Bool) → List X → Bool

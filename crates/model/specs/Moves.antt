@@ -5,8 +5,7 @@ use mathlib.Core.Bool.{Bool, true, false, cond}
 use mathlib.Core.List.{List, [], _∷_}
 use lib.Dec.{ltb, eqb}
 use lib.ListN.{length, getD, set}
-use Rattle.std.specs.shelf.Lists.{sumBy}
-use Rattle.model.specs.Lists.{In, every}
+use Rattle.model.specs.Lists.{In, total, every}
 use Rattle.model.specs.Scenes.{Scene}
 
 -- a device and one of its settings
@@ -38,7 +37,7 @@ charged s x = cond (all-hold s (x .tests)) (x .extra) 0
 
 -- the time of a move in the scene before it
 abbrev pub time : Move → Scene → ℕ
-time m s = m .base + sumBy (charged s) (m .surcharges)
+time m s = m .base + total (charged s) (m .surcharges)
 
 -- each effect sets its device, in order
 abbrev pub applied : List Pair → Scene → Scene

@@ -1,0 +1,2 @@
+pub mod Shorts
+pub mod Repeats

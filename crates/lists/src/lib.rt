@@ -1,0 +1,4 @@
+//! Bounded lists, and the finder of the first repeated entry.
+pub mod repeats;
+pub mod short;
+pub mod shorts;
