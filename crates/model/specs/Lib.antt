@@ -10,3 +10,4 @@ pub mod Charts
 pub mod Ranks
 pub mod Parts
 pub mod Shelves
+pub mod ChartLaws

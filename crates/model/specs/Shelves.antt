@@ -2,7 +2,7 @@
 use Prim.Native.Nat.{ℕ}
 use mathlib.Core.Path.{_≡_}
 use mathlib.Core.Bool.{Bool, true, false, cond, not, _||_, _&&_}
-use mathlib.Core.List.{List, [], _∷_}
+use mathlib.Core.List.{List, [], _∷_, _++_}
 use lib.Dec.{ltb, leb, eqb}
 use lib.ListN.{length, getD, set, take}
 use Rattle.std.specs.Options.{isSome, Cases}
@@ -103,10 +103,14 @@ abbrev pub compares : Meaning → ℕ → ℕ → Result Bool ℕ
 compares m a b =
     answer (refuse 14 (high a || high b) ∷ refuse 15 (bare (m .pegs) a || bare (m .pegs) b) ∷ []) (same-chart (on (m .pegs) a) (on (m .pegs) b))
 
+-- a scene without one setting per device, or with a setting too high for its device
+abbrev pub scene-checks : Shape → Scene → List Check
+scene-checks ns s = refuse 1 (not (eqb (length s) (length ns))) ∷ refuse 8 (some-two leb ns s) ∷ []
+
 -- the time that a peg's chart gives a scene
 abbrev pub reads : Meaning → ℕ → Scene → Result Time ℕ
 reads m p s =
-    answer (refuse 1 (not (eqb (length s) (length (m .shape)))) ∷ refuse 8 (some-two leb (m .shape) s) ∷ refuse 14 (high p) ∷ refuse 15 (bare (m .pegs) p) ∷ [])
+    answer (scene-checks (m .shape) s ++ (refuse 14 (high p) ∷ refuse 15 (bare (m .pegs) p) ∷ []))
     (at (m .shape) (on (m .pegs) p) s)
 
 -- what holds of every shelf: a legal shape, eight pegs, and each chart has an entry for each scene, none of them late
