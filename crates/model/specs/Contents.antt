@@ -21,8 +21,11 @@ pub record Contents : Type 0 where
 abbrev pub slot : Contents → ℕ → Option Move
 slot c n = getD (c .slots) n None
 
+abbrev pub with-slots : Contents → List (Option Move) → Contents
+with-slots c ms = record { settings = c .settings; names = c .names; scene = c .scene; masks = c .masks; slots = ms }
+
 abbrev pub with-slot : Contents → ℕ → Option Move → Contents
-with-slot c n m = record { settings = c .settings; names = c .names; scene = c .scene; masks = c .masks; slots = set (c .slots) n m }
+with-slot c n m = with-slots c (set (c .slots) n m)
 
 abbrev pub with-scene : Contents → Scene → Contents
 with-scene c s = record { settings = c .settings; names = c .names; scene = s; masks = c .masks; slots = c .slots }

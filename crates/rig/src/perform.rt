@@ -41,7 +41,7 @@ impl Rig {
     {
         let scene = self.devices.scene.as_slice();
         let masks = self.devices.masks.as_slice();
-        if device >= scene.len() || device >= masks.len() {
+        if device >= scene.len() {
             return Err(RigFault::DeviceHigh);
         }
         Ok((scene[device], masks[device]))

@@ -70,11 +70,11 @@ high-none c i m e =
     none-some : None ≡ Some m → ⊥
     none-some e = let z : _≡_ {A = ℕ} 0 1 = cc in absurd (omega arith)
 
-answers-by-move : (c : Contents) (i : ℕ) (m : Move) → slot c i ≡ Some m → all-hold (c .scene) (m .conditions) ≡ true → performs c i ≡ Ok (time m (c .scene))
+pub answers-by-move : (c : Contents) (i : ℕ) (m : Move) → slot c i ≡ Some m → all-hold (c .scene) (m .conditions) ≡ true → performs c i ≡ Ok (time m (c .scene))
 answers-by-move c i m e h =
     ap (λ b. by-slot c b (slot c i)) (high-none c i m e) ∙ ap (by-slot c false) e ∙ by-move c m h
 
-leaves-by-move : (c : Contents) (i : ℕ) (m : Move) → slot c i ≡ Some m → all-hold (c .scene) (m .conditions) ≡ true → performed c i ≡ with-scene c (applied (m .effects) (c .scene))
+pub leaves-by-move : (c : Contents) (i : ℕ) (m : Move) → slot c i ≡ Some m → all-hold (c .scene) (m .conditions) ≡ true → performed c i ≡ with-scene c (applied (m .effects) (c .scene))
 leaves-by-move c i m e h =
     ap (λ r. left-by r (scene-by c (slot c i)) c) (answers-by-move c i m e h) ∙ ap (scene-by c) e
 
@@ -157,7 +157,7 @@ slot-lawful ns (m ∷ ms) (suc i) h = slot-lawful ns ms i (h .1)
 pub move-lawful : (c : Contents) (i : ℕ) (m : Move) → Lawful c → slot c i ≡ Some m → Lawful-move (c .settings) m
 move-lawful c i m h e = subst (Lawful-slot (c .settings)) e (slot-lawful (c .settings) (c .slots) i (contents-told c h .each-slot))
 
-performed-keeps : (c : Contents) (i u : ℕ) → performs c i ≡ Ok u → Performed c (performed c i)
+pub performed-keeps : (c : Contents) (i u : ℕ) → performs c i ≡ Ok u → Performed c (performed c i)
 performed-keeps c i u h =
     let k = accepted c i u h in
     subst (Performed c) (sym (k .leaves)) (record {
