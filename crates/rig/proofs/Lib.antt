@@ -5,3 +5,4 @@ pub mod Keeping
 pub mod Writing
 pub mod Answering
 pub mod Performing
+pub mod Editing

@@ -8,3 +8,5 @@ pub mod Told
 pub mod Tabling
 pub mod Performing
 pub mod Best
+pub mod Keeping
+pub mod Opening

@@ -1,6 +1,7 @@
 // The moves of a rig make a lawful transition system, whose runs are the runs of accepted performs.
 ghost use Rattle.theory.specs.Wellformed.{Contents-told};
 ghost use Rattle.theory.specs.Tables.{Moves-lawful, Tables-lawful};
+ghost use Rattle.theory.specs.Keeping.{Openings-lawful, Calls-keep};
 ghost use Rattle.theory.specs.Performing.{Ways-are-runs, Performs-keep};
 ghost use Rattle.theory.specs.Ways.{Walks-best, Never-none};
 
@@ -42,6 +43,18 @@ pub fn greedy_walks_are_best_ways() -> u8
 
 pub fn never_means_no_way() -> u8
     ensures { λ _. ⌜ Never-none ⌝ }
+{
+    0
+}
+
+pub fn openings_leave_lawful_contents() -> u8
+    ensures { λ _. ⌜ Openings-lawful ⌝ }
+{
+    0
+}
+
+pub fn calls_keep_contents_lawful() -> u8
+    ensures { λ _. ⌜ Calls-keep ⌝ }
 {
     0
 }
