@@ -6,3 +6,4 @@ pub mod Writing
 pub mod Answering
 pub mod Performing
 pub mod Editing
+pub mod OpeningSeen

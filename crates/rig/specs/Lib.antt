@@ -3,3 +3,4 @@ pub mod Flaws
 pub mod Views
 pub mod Slots
 pub mod Rigs
+pub mod Openings

@@ -1,9 +1,7 @@
 use crate::limits::*;
+use lists::names::Name;
 use lists::short::Short;
 use lists::short::ShortClone;
-
-/// A device's name: eight printable bytes.
-pub type Name = [u8; 8];
 
 /// The devices: how many settings each has, its name, its present setting and its mask.
 #[derive(Clone, Copy)]

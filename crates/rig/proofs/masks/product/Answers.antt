@@ -15,10 +15,10 @@ bound : (t i o : ℕ) → t ≤ 8 ^ i → o ≤ 8 → t * o ≤ 8 ^ (i + 1)
 bound t i o h k = rw (add-one, pow-suc) (mul-le-mul h k)
 
 -- the product so far times a mask's ones
-next : (c : need.After-from) → c .loop-mask .product * c .from .result ≤ 8 ^ (c .loop-mask .mask-index + 1)
+next : (c : need.After-from-product) → c .loop-mask .product * c .from-product .result ≤ 8 ^ (c .loop-mask .mask-index + 1)
 next c =
     let byte : getD (c .args .masks .now) (c .loop-mask .mask-index) 0 < 2 ^ 8 = omega (arith, c .typed .masks (c .loop-mask .mask-index)) in
-    let few : c .from .result ≤ 8 = omega (arith, ones-le 8 (getD (c .args .masks .now) (c .loop-mask .mask-index) 0) byte) in
+    let few : c .from-product .result ≤ 8 = omega (arith, ones-le 8 (getD (c .args .masks .now) (c .loop-mask .mask-index) 0) byte) in
     bound _ _ _ (c .loop-mask .inv .1) few
 
 pub mul-product : need.mul-product
@@ -29,7 +29,7 @@ mul-product c =
 pub loop-mask-again : need.loop-mask-again
 loop-mask-again c =
     let rest = product-of-ones (drop (c .loop-mask .mask-index + 1) (c .args .masks .now)) in
-    ( ap (λ (o : ℕ). c .loop-mask .product * o * rest) (c .from .ensures)
+    ( ap (λ (o : ℕ). c .loop-mask .product * o * rest) (c .from-product .ensures)
       ∙ mul-assoc (c .loop-mask .product) (ones (getD (c .args .masks .now) (c .loop-mask .mask-index) 0)) rest
       ∙ ap (λ (o : ℕ). c .loop-mask .product * o) (sym (at-drop-more product-of-ones (c .args .masks .now) (c .loop-mask .mask-index) 0 (c .loop-mask-test .taken)))
       ∙ c .loop-mask .inv .0

@@ -1,0 +1,9 @@
+use crate::fault::RigFault;
+use crate::moves::Move;
+
+/// A refused opening: why, and the table of slots as it was handed over.
+#[derive(Drop)]
+pub struct Unopened {
+    pub fault: RigFault,
+    pub slots: Vec<Option<Move>>,
+}
