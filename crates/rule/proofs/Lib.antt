@@ -1,0 +1,5 @@
+pub mod Tabs
+pub mod Blocks
+pub mod Rounds
+pub mod Counts
+pub mod Whole

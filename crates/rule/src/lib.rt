@@ -1,0 +1,33 @@
+// The planning rule as a list of calls on a shelf. Each function's contract is a theorem about the definitions in
+// specs/; none does anything.
+ghost use Rattle.rule.specs.Bridge.{Moves-tried, Rounds-run, Starts-run, Rounds-counted, Rule-right};
+
+pub fn moves_are_tried() -> u8
+    ensures { λ _. ⌜ Moves-tried ⌝ }
+{
+    0
+}
+
+pub fn rounds_are_run() -> u8
+    ensures { λ _. ⌜ Rounds-run ⌝ }
+{
+    0
+}
+
+pub fn starts_are_run() -> u8
+    ensures { λ _. ⌜ Starts-run ⌝ }
+{
+    0
+}
+
+pub fn rounds_are_counted() -> u8
+    ensures { λ _. ⌜ Rounds-counted ⌝ }
+{
+    0
+}
+
+pub fn rule_is_right() -> u8
+    ensures { λ _. ⌜ Rule-right ⌝ }
+{
+    0
+}
