@@ -1,9 +1,9 @@
 -- Lists of calls on a shelf: what is on the pegs after them, and which of them overfills it. Assumes nothing.
 use Prim.Native.Nat.{_<_}
 use mathlib.Core.Path.{_≡_}
-use mathlib.Core.Bool.{Bool, false, cond}
+use mathlib.Core.Bool.{true, false, cond}
 use mathlib.Core.Logic.{_⊎_}
-use mathlib.Core.List.{List, [], _∷_}
+use mathlib.Core.List.{List, [], _∷_, _++_}
 use Rattle.std.specs.declared.option.Option.{Option}
 use Rattle.std.specs.declared.option.Option.the-variants.{Some, None}
 use Rattle.std.specs.declared.result.Result.the-variants.{Ok, Err}
@@ -26,6 +26,25 @@ abbrev pub first-overfilling : Meaning → List Step → Option Step
 first-overfilling m [] = None
 first-overfilling m (x ∷ xs) =
     cond (overfills m (x .call)) (Some x) (first-overfilling (with-pegs m (after (m .shape) (m .pegs) (x .call))) xs)
+
+-- no step overfills the shelf, as those before it leave it
+abbrev pub Fits : Meaning → List Step → Type 0
+Fits m xs = (done left : List Step) (x : Step) → xs ≡ done ++ (x ∷ left) → overfills (after-steps m done) (x .call) ≡ false
+
+-- x is the first step that does
+pub record First (m : Meaning) (xs : List Step) (x : Step) : Type 0 where
+  pub done : List Step
+  pub left : List Step
+  pub split : xs ≡ done ++ (x ∷ left)
+  pub fits : Fits m done
+  pub overfilling : overfills (after-steps m done) (x .call) ≡ true
+
+abbrev pub Told : Meaning → List Step → Option Step → Type 0
+Told m xs None = Fits m xs
+Told m xs (Some x) = First m xs x
+
+abbrev pub Overfilling-told : Type 0
+Overfilling-told = (m : Meaning) (xs : List Step) → Told m xs (first-overfilling m xs)
 
 -- of all refusals of the call none but "no room" can hold, and it hangs its chart on one of pegs 0 to 4
 pub record Only-room (m : Meaning) (c : Call) : Type 0 where

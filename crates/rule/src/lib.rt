@@ -1,6 +1,7 @@
 // The planning rule as a list of calls on a shelf. Each function's contract is a theorem about the definitions in
 // specs/; none does anything.
-ghost use Rattle.rule.specs.Bridge.{Moves-tried, Rounds-run, Starts-run, Rounds-counted, Rule-right};
+ghost use Rattle.rule.specs.Bridge.{Moves-tried, Rounds-run, Starts-run, Rounds-counted, Rule-right, Rule-only-room};
+ghost use Rattle.rule.specs.Running.{Overfilling-told};
 
 pub fn moves_are_tried() -> u8
     ensures { λ _. ⌜ Moves-tried ⌝ }
@@ -28,6 +29,18 @@ pub fn rounds_are_counted() -> u8
 
 pub fn rule_is_right() -> u8
     ensures { λ _. ⌜ Rule-right ⌝ }
+{
+    0
+}
+
+pub fn rule_is_refused_for_room_alone() -> u8
+    ensures { λ _. ⌜ Rule-only-room ⌝ }
+{
+    0
+}
+
+pub fn first_overfilling_is_told() -> u8
+    ensures { λ _. ⌜ Overfilling-told ⌝ }
 {
     0
 }
