@@ -10,11 +10,15 @@ use Rattle.std.proofs.shelf.Tests.{eqb-true, eq-eqb, both-ways, false≢true, c
 use Rattle.model.specs.Charts.{Time, Chart, same-time, same-chart}
 use Rattle.model.specs.Scenes.{size}
 use Rattle.model.specs.Masks.{wanted}
+use Rattle.model.specs.Contents.{Contents}
+use Rattle.theory.specs.Iteration.{rounds}
 use Rattle.theory.specs.Tables.{table-of}
+use Rattle.theory.specs.Alike.{Alike}
+use Rattle.theory.proofs.Alikes.{tables-alike, rounds-alike}
 use Rattle.theory.proofs.Cycles.{rounds-stop}
 use Rattle.theory.proofs.Tabling.{tables-lawful}
 use Rattle.rule.specs.Rule.{chart-after, settles, count}
-use Rattle.rule.specs.Bridge.{Counts, Rounds-counted}
+use Rattle.rule.specs.Bridge.{Counts, Rounds-counted, Counts-alike}
 
 same-time-is : (x y : Time) → same-time x y ≡ true → x ≡ y
 same-time-is None None h = refl
@@ -89,3 +93,19 @@ rounds-counted c law =
           apart)
           (cases-order r (count c));
     }
+
+-- Contents that are alike
+
+settles-alike : (f g : ℕ → Chart) → ((r : ℕ) → f r ≡ g r) → (n r : ℕ) → settles f n r ≡ settles g n r
+settles-alike f g h zero r = refl
+settles-alike f g h (suc n) r = λ i. cond (same-chart (h (suc r) i) (h r i)) r (settles-alike f g h n (suc r) i)
+
+charts-alike : (c d : Contents) → Alike c d → c .settings ≡ d .settings → (r : ℕ) → chart-after c r ≡ chart-after d r
+charts-alike c d h same r =
+    rounds-alike (c .settings) (table-of (c .slots)) (table-of (d .slots)) (wanted (c .masks)) (tables-alike c d h) r
+    ∙ ap (λ ns. rounds ns (table-of (d .slots)) (wanted (c .masks)) r) same
+    ∙ ap (λ ms. rounds (d .settings) (table-of (d .slots)) (wanted ms) r) (h .same-masks)
+
+pub counts-alike : Counts-alike
+counts-alike c d h same =
+    settles-alike (chart-after c) (chart-after d) (charts-alike c d h same) (size (c .settings)) 0 ∙ ap (λ ns. settles (chart-after d) (size ns) 0) same

@@ -2,7 +2,7 @@
 use mathlib.Core.Path.{_≡_, refl, sym, ap, subst, _∙_}
 use mathlib.Core.Bool.{Bool, true, false, cond}
 use mathlib.Core.List.{List, [], _∷_, _++_}
-use Prim.Native.Nat.{ℕ, zero, suc, _+_}
+use Prim.Native.Nat.{ℕ, zero, suc, _+_, _-_, _≤_}
 use native.Mathlib.Omega.{arith}
 use Rattle.std.specs.Iters.{counting}
 use Rattle.std.specs.Joined.{joined}
@@ -11,9 +11,10 @@ use Rattle.std.specs.declared.option.Option.the-variants.{Some, None}
 use Rattle.std.proofs.shelf.Lists.{append-assoc, append-nil}
 use Rattle.model.specs.Moves.{Move}
 use Rattle.model.specs.Shelves.{Meaning, after, with-pegs, overfills}
-use Rattle.rule.specs.Steps.{Step, calls, marked, round-0, changing}
+use Rattle.rule.specs.Steps.{Step, calls, copy, marked, round-0, round, changing}
 use Rattle.rule.specs.Running.{after-steps, first-overfilling, Fits, First, Told, Overfilling-told}
-use Rattle.rule.specs.Rule.{start}
+use Rattle.rule.specs.Rule.{count, start, so-far, rule}
+use Rattle.rule.specs.Bridge.{Rule-goes-on}
 
 nil-is-not : (x : Step) (done left : List Step) → [] ≡ done ++ (x ∷ left) → ⊥
 nil-is-not x [] left e = let z : _≡_ {A = ℕ} 0 1 = cc in absurd (omega arith)
@@ -79,3 +80,27 @@ start-more slots masks n =
     ap (λ xs. marked 0 None (round-0 masks) ++ xs) (joined-last (changing slots) 1 n)
     ∙ sym (append-assoc (marked 0 None (round-0 masks)) (joined (changing slots) (counting 1 n)) (changing slots (1 + n)))
     ∙ ap (λ i. start slots masks n ++ changing slots i) z
+
+-- k rounds more
+more-rounds : (slots : List (Option Move)) (masks : List ℕ) (k n : ℕ) →
+    (left : List Step) × (start slots masks (n + k) ++ round (n + k + 1) slots ≡ (start slots masks n ++ round (n + 1) slots) ++ left)
+more-rounds slots masks zero n =
+    let z : n + 0 ≡ n = omega arith in
+    ([], ap (λ i. start slots masks i ++ round (i + 1) slots) z ∙ sym (append-nil (start slots masks n ++ round (n + 1) slots)))
+more-rounds slots masks (suc k) n =
+    let old = more-rounds slots masks k (n + 1) in
+    let last : List Step = marked (n + 1) None (copy 0 1 ∷ []) in
+    let next : List Step = round (n + 1 + 1) slots ++ old .0 in
+    let front = start slots masks n in
+    let here = round (n + 1) slots in
+    let z : n + suc k ≡ n + 1 + k = omega arith in (
+      last ++ next,
+      ap (λ i. start slots masks i ++ round (i + 1) slots) z ∙ old .1 ∙ append-assoc (start slots masks (n + 1)) (round (n + 1 + 1) slots) (old .0)
+          ∙ ap (λ xs. xs ++ next) (start-more slots masks n ∙ sym (append-assoc front here last)) ∙ append-assoc (front ++ here) last next,
+    )
+
+pub rule-goes-on : Rule-goes-on
+rule-goes-on c n h =
+    let z : n + (count c - n) ≡ count c = omega arith in
+    let more = more-rounds (c .slots) (c .masks) (count c - n) n in
+    (more .0, ap (so-far c) (sym z) ∙ more .1)

@@ -11,7 +11,7 @@ use Rattle.std.specs.Joined.{joined}
 use Rattle.std.specs.shelf.Lists.{All}
 use Rattle.std.specs.declared.option.Option.{Option}
 use Rattle.std.specs.declared.option.Option.the-variants.{Some, None}
-use Rattle.model.specs.Limits.{greatest-time, most-tenths, most-settings, most-devices}
+use Rattle.model.specs.Limits.{greatest-time, most-tenths, most-settings, most-devices, peg-count}
 use Rattle.model.specs.Scenes.{Shape, size}
 use Rattle.model.specs.Charts.{Time, Chart, lesser, plus, zipped, dialled}
 use Rattle.model.specs.Masks.{admits}
@@ -23,7 +23,7 @@ use Rattle.theory.specs.Wellformed.{Lawful-shape, Lawful-move, Lawful-slot}
 use Rattle.theory.proofs.Told.{contents-told}
 use Rattle.rule.specs.Steps.{entries, admitted, copy, masked, round-0, tried, of-slot, Step, calls, marked, by-moves, round, changing}
 use Rattle.rule.specs.Running.{ran, Only-room, Only-room-in}
-use Rattle.rule.specs.Rule.{count, start, rule}
+use Rattle.rule.specs.Rule.{count, start, so-far, rule}
 use Rattle.rule.specs.Bridge.{Rule-only-room}
 use Rattle.rule.proofs.Blocks.{ran-append}
 use Rattle.rule.proofs.Rounds.{calls-append, calls-marked}
@@ -203,14 +203,13 @@ small-enough ns n h le =
     let product : n * most-tenths ≤ most-settings ^ most-devices * most-tenths = mul-le-mul-right most-tenths most in
     omega arith
 
-pub rule-spares : (c : Contents) → Lawful c → (m : Meaning) → m .shape ≡ c .settings → length (m .pegs) ≡ 8 → Only-room-in m (calls (rule c))
-rule-spares c law m same long =
+pub so-far-spares : (c : Contents) → Lawful c → (m : Meaning) → m .shape ≡ c .settings → length (m .pegs) ≡ peg-count → (n : ℕ) → n ≤ size (c .settings) → Only-room-in m (calls (so-far c n))
+so-far-spares c law m same long n le =
     let told = contents-told c law in
-    let n = count c in
     let shape : Lawful-shape (m .shape) = subst Lawful-shape (sym same) (told .shape) in
     let slots : All (Lawful-slot (m .shape)) (c .slots) = subst (λ ns. All (Lawful-slot ns) (c .slots)) (sym same) (told .each-slot) in
     let masks : length (c .masks) ≡ length (m .shape) = told .as-many-masks ∙ ap length (sym same) in
-    let small : n * most-tenths + most-tenths ≤ greatest-time = small-enough (c .settings) n (told .shape) (rounds-counted c law .few) in
+    let small : n * most-tenths + most-tenths ≤ greatest-time = small-enough (c .settings) n (told .shape) le in
     let k = five (m .pegs) long in
     let ps : Pegs = k .zeroth ∷ k .one ∷ k .two ∷ k .three ∷ k .four ∷ k .rest in
     let s = start-leads m shape (k .rest) (c .slots) slots (c .masks) masks n (omega arith) (k .zeroth) (k .one) (k .two) (k .three) (k .four) in
@@ -219,8 +218,11 @@ rule-spares c law m same long =
     let all : Only-room-in (with-pegs m ps) (calls (start (c .slots) (c .masks) n) ++ calls (round (n + 1) (c .slots))) =
     only-append (with-pegs m ps) (calls (start (c .slots) (c .masks) n)) (calls (round (n + 1) (c .slots))) (s .only-room)
     (subst (λ qs. Only-room-in (with-pegs m qs) (calls (round (n + 1) (c .slots)))) (sym (h .is)) (last .only-room)) in
-    subst (λ qs. Only-room-in (with-pegs m qs) (calls (rule c))) (sym (k .is))
+    subst (λ qs. Only-room-in (with-pegs m qs) (calls (so-far c n))) (sym (k .is))
     (subst (Only-room-in (with-pegs m ps)) (sym (calls-append (start (c .slots) (c .masks) n) (round (n + 1) (c .slots)))) all)
+
+pub rule-spares : (c : Contents) → Lawful c → (m : Meaning) → m .shape ≡ c .settings → length (m .pegs) ≡ peg-count → Only-room-in m (calls (rule c))
+rule-spares c law m same long = so-far-spares c law m same long (count c) (rounds-counted c law .few)
 
 pub rule-only-room : Rule-only-room
 rule-only-room c law m same long done left x e =

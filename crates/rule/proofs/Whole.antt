@@ -26,8 +26,8 @@ use Rattle.theory.proofs.Told.{contents-told}
 use Rattle.theory.proofs.Tabling.{tables-lawful}
 use Rattle.rule.specs.Steps.{calls, marked, round-0, tried, round, changing}
 use Rattle.rule.specs.Running.{ran}
-use Rattle.rule.specs.Rule.{chart-after, count, start, rule}
-use Rattle.rule.specs.Bridge.{tab, Tried, Moves-tried, Rounds-run, Starts-run, Ruled, Rule-right}
+use Rattle.rule.specs.Rule.{chart-after, count, start, so-far, rule}
+use Rattle.rule.specs.Bridge.{tab, Tried, Moves-tried, Rounds-run, Starts-run, Shown, Rounds-shown, Ruled, Rule-right}
 use Rattle.rule.proofs.Tabs.{Few, tab-as}
 use Rattle.rule.proofs.Blocks.{Now, tried-ran}
 use Rattle.rule.proofs.Rounds.{ran-steps, ran-marked, Both, round-ran, Front, changing-ran, round-0-ran}
@@ -129,29 +129,35 @@ starts-run c law ps long n =
     subst (λ qs. getD (ran (c .settings) qs (calls (start (c .slots) (c .masks) n))) 0 None ≡ Some (chart-after c n)) (sym (k .is))
     (ap (λ qs. getD qs 0 None) (z .is))
 
-pub rule-right : Rule-right
-rule-right c law ps long =
+pub rounds-shown : Rounds-shown
+rounds-shown c law ps long n =
     let ns = c .settings in
     let slots = c .slots in
-    let n = count c in
     let f : ℕ → Chart = chart-after c in
-    let v : Scene → Time = at ns (f n) in
     let k = five ps long in
     let told = contents-told c law in
     let few = told .shape .each-few in
     let z = start-ran ns few slots (told .each-slot) (c .masks) (told .as-many-masks) (told .shape .some) (k .rest) n (k .zeroth) (k .one) (k .two) (k .three) (k .four) in
-    let y = round-ran ns few (k .rest) (n + 1) slots (told .each-slot) v (z .one) (z .two) (z .three) (z .four) in
-    let settled = rounds-counted c law .settled in
+    let y = round-ran ns few (k .rest) (n + 1) slots (told .each-slot) (at ns (f n)) (z .one) (z .two) (z .three) (z .four) in
     let self = rounds-tab ns (table-of slots) (wanted (c .masks)) n in
-    let e : ran ns ps (calls (rule c)) ≡ Some (f n) ∷ Some (f n) ∷ y .two ∷ y .three ∷ y .four ∷ k .rest =
+    let e : ran ns ps (calls (so-far c n)) ≡ Some (f n) ∷ Some (f (suc n)) ∷ y .two ∷ y .three ∷ y .four ∷ k .rest =
     ran-steps ns ps (start slots (c .masks) n) (round (n + 1) slots)
     ∙ ap (λ qs. ran ns (ran ns qs (calls (start slots (c .masks) n))) (calls (round (n + 1) slots))) (k .is)
     ∙ ap (λ qs. ran ns qs (calls (round (n + 1) slots))) (z .is ∙ ap (λ x. Some x ∷ z .one ∷ z .two ∷ z .three ∷ z .four ∷ k .rest) self)
-    ∙ y .is ∙ ap (λ x. Some x ∷ Some (f (suc n)) ∷ y .two ∷ y .three ∷ y .four ∷ k .rest) (sym self)
-    ∙ ap (λ x. Some (f n) ∷ Some x ∷ y .two ∷ y .three ∷ y .four ∷ k .rest) settled in
+    ∙ y .is ∙ ap (λ x. Some x ∷ Some (f (suc n)) ∷ y .two ∷ y .three ∷ y .four ∷ k .rest) (sym self) in
     record {
       first = ap (λ qs. getD qs 0 None) e;
       second = ap (λ qs. getD qs 1 None) e;
       upper = λ p le. ap (λ qs. getD qs p None) e ∙ upper-is _ _ _ _ _ _ _ _ _ _ (k .rest) p le ∙ ap (λ qs. getD qs p None) (sym (k .is));
-      right = settled-right ns (table-of slots) (wanted (c .masks)) (tables-lawful c law) n settled;
+    }
+
+pub rule-right : Rule-right
+rule-right c law ps long =
+    let s = rounds-shown c law ps long (count c) in
+    let settled = rounds-counted c law .settled in
+    record {
+      first = s .first;
+      second = s .second ∙ ap Some settled;
+      upper = s .upper;
+      right = settled-right (c .settings) (table-of (c .slots)) (wanted (c .masks)) (tables-lawful c law) (count c) settled;
     }

@@ -20,9 +20,10 @@ use Rattle.theory.specs.Iteration.{later, relax}
 use Rattle.theory.specs.Wellformed.{Lawful-shape, Lawful-move, Lawful-slot}
 use Rattle.theory.specs.Tables.{table-of}
 use Rattle.theory.specs.Ways.{Right-for}
+use Rattle.theory.specs.Alike.{Alike}
 use Rattle.rule.specs.Steps.{Step, calls, tried, round}
 use Rattle.rule.specs.Running.{ran, after-steps, Only-room}
-use Rattle.rule.specs.Rule.{chart-after, count, start, rule}
+use Rattle.rule.specs.Rule.{chart-after, count, start, so-far, rule}
 
 -- the chart that a function makes
 abbrev pub tab : Shape → (Scene → Time) → Chart
@@ -61,6 +62,16 @@ Starts-run =
     (c : Contents) → Lawful c → (ps : Pegs) → length ps ≡ peg-count →
     (n : ℕ) → getD (ran (c .settings) ps (calls (start (c .slots) (c .masks) n))) 0 None ≡ Some (chart-after c n)
 
+-- one round more leaves the next chart on peg 1
+pub record Shown (c : Contents) (n : ℕ) (old new : Pegs) : Type 0 where
+  pub first : getD new 0 None ≡ Some (chart-after c n)
+  pub second : getD new 1 None ≡ Some (chart-after c (suc n))
+  pub upper : (p : ℕ) → 5 ≤ p → getD new p None ≡ getD old p None
+
+abbrev pub Rounds-shown : Type 0
+Rounds-shown =
+    (c : Contents) → Lawful c → (ps : Pegs) → length ps ≡ peg-count → (n : ℕ) → Shown c n ps (ran (c .settings) ps (calls (so-far c n)))
+
 -- each round that is counted makes some scene cheaper, and the next one none
 pub record Counts (c : Contents) : Type 0 where
   pub changed : (r : ℕ) → r < count c → chart-after c (suc r) ≢ chart-after c r
@@ -71,7 +82,15 @@ pub record Counts (c : Contents) : Type 0 where
 abbrev pub Rounds-counted : Type 0
 Rounds-counted = (c : Contents) → Lawful c → Counts c
 
+-- contents that are alike, also in their settings counts, count the same rounds
+abbrev pub Counts-alike : Type 0
+Counts-alike = (c d : Contents) → Alike c d → c .settings ≡ d .settings → count c ≡ count d
+
 -- The whole rule
+
+-- as long as a round makes some scene cheaper, the rule goes on
+abbrev pub Rule-goes-on : Type 0
+Rule-goes-on = (c : Contents) (n : ℕ) → n ≤ count c → (left : List Step) × (rule c ≡ so-far c n ++ left)
 
 -- pegs 0 and 1 have the least times of all runs of the rig's moves to a wanted scene
 pub record Ruled (c : Contents) (old new : Pegs) : Type 0 where

@@ -32,6 +32,10 @@ count c = settles (chart-after c) (size (c .settings)) 0
 abbrev pub start : List (Option Move) → List ℕ → ℕ → List Step
 start slots masks n = marked 0 None (round-0 masks) ++ joined (changing slots) (counting 1 n)
 
--- the last round makes nothing cheaper
+-- and one round more, whose chart on peg 1 is yet to be compared with peg 0
+abbrev pub so-far : Contents → ℕ → List Step
+so-far c n = start (c .slots) (c .masks) n ++ round (n + 1) (c .slots)
+
+-- in the whole rule the last round is the first that makes nothing cheaper
 abbrev pub rule : Contents → List Step
-rule c = start (c .slots) (c .masks) (count c) ++ round (count c + 1) (c .slots)
+rule c = so-far c (count c)

@@ -6,3 +6,4 @@ pub mod Wellformed
 pub mod Tables
 pub mod Performing
 pub mod Ways
+pub mod Alike

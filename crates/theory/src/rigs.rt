@@ -3,6 +3,7 @@ ghost use Rattle.theory.specs.Wellformed.{Contents-told};
 ghost use Rattle.theory.specs.Tables.{Moves-lawful, Tables-lawful};
 ghost use Rattle.theory.specs.Performing.{Ways-are-runs, Performs-keep};
 ghost use Rattle.theory.specs.Ways.{Walks-best, Never-none};
+ghost use Rattle.theory.specs.Alike.{Ways-alike, Best-alike};
 
 pub fn lawful_contents_are_well_formed() -> u8
     ensures { λ _. ⌜ Contents-told ⌝ }
@@ -42,6 +43,18 @@ pub fn greedy_walks_are_best_ways() -> u8
 
 pub fn never_means_no_way() -> u8
     ensures { λ _. ⌜ Never-none ⌝ }
+{
+    0
+}
+
+pub fn alike_contents_have_the_same_ways() -> u8
+    ensures { λ _. ⌜ Ways-alike ⌝ }
+{
+    0
+}
+
+pub fn alike_contents_have_one_best_way() -> u8
+    ensures { λ _. ⌜ Best-alike ⌝ }
 {
     0
 }
