@@ -58,12 +58,12 @@ module _ (m : Meaning) (a b : Option Chart) (rest : Pegs) where
     pub is : ps ≡ a ∷ b ∷ Some chart ∷ three ∷ four ∷ rest
 
   -- calls before which peg 2 has times up to w, and after which up to u
-  pub record Spares (x : Chart) (d e : Option Chart) (cs : List Call) (u : ℕ) : Type 0 where
+  pub record Unrefused (x : Chart) (d e : Option Chart) (cs : List Call) (u : ℕ) : Type 0 where
     pub only-room : Only-room-in (with-pegs m (a ∷ b ∷ Some x ∷ d ∷ e ∷ rest)) cs
     pub kept : Kept (ran (m .shape) (a ∷ b ∷ Some x ∷ d ∷ e ∷ rest) cs) u
 
   abbrev pub Block : List Call → ℕ → ℕ → Type 0
-  Block cs w u = (x : Chart) → Most w x → (d e : Option Chart) → Spares x d e cs u
+  Block cs w u = (x : Chart) → Most w x → (d e : Option Chart) → Unrefused x d e cs u
 
   nothing : (w u : ℕ) → w ≤ u → Block [] w u
   nothing w u h x most d e = record { only-room = tt; kept = record { chart = x; three = d; four = e; most = most-more w u h x most; is = refl } }
@@ -80,10 +80,10 @@ module _ (m : Meaning) (a b : Option Chart) (rest : Pegs) where
         kept = subst (λ qs. Kept qs k) (sym (ran-append (m .shape) ps cs ds ∙ ap (λ qs. ran (m .shape) qs ds) (n .is))) (two .kept);
       }
 
-  effected-spares : (qs : List Pair) → All (Within (m .shape)) qs → (w : ℕ) → Block (effected qs) w w
-  effected-spares [] h w x most d e = nothing w w (omega arith) x most d e
-  effected-spares (q ∷ qs) h w x most d e =
-      let more = effected-spares qs (h .1) w (put-chart (m .shape) (q .device) (q .setting) x) (most-put w (m .shape) (q .device) (q .setting) x most) d e in
+  effected-unrefused : (qs : List Pair) → All (Within (m .shape)) qs → (w : ℕ) → Block (effected qs) w w
+  effected-unrefused [] h w x most d e = nothing w w (omega arith) x most d e
+  effected-unrefused (q ∷ qs) h w x most d e =
+      let more = effected-unrefused qs (h .1) w (put-chart (m .shape) (q .device) (q .setting) x) (most-put w (m .shape) (q .device) (q .setting) x most) d e in
       record { only-room = (puts (with-pegs m (a ∷ b ∷ Some x ∷ d ∷ e ∷ rest)) 2 2 q refl (omega arith) (h .0) refl, more .only-room); kept = more .kept }
 
   -- a dial on peg 3, and its sum with peg 2
@@ -99,16 +99,16 @@ module _ (m : Meaning) (a b : Option Chart) (rest : Pegs) where
         kept = record { chart = zipped plus x y; three = Some y; four = e; most = most-sum w t x y most few; is = refl };
       }
 
-  conditioned-spares : (qs : List Pair) → All (Within (m .shape)) qs → (w : ℕ) → w ≤ greatest-time → Block (conditioned qs) w w
-  conditioned-spares [] h w small = nothing w w (omega arith)
-  conditioned-spares (q ∷ qs) h w small =
+  conditioned-unrefused : (qs : List Pair) → All (Within (m .shape)) qs → (w : ℕ) → w ≤ greatest-time → Block (conditioned qs) w w
+  conditioned-unrefused [] h w small = nothing w w (omega arith)
+  conditioned-unrefused (q ∷ qs) h w small =
       let z : w + 0 ≡ w = omega arith in
       then (dial 3 (q .device) (entries (only (q .setting))) ∷ sum 2 2 3 ∷ []) (conditioned qs) w w w
       (subst (Block (dial 3 (q .device) (entries (only (q .setting))) ∷ sum 2 2 3 ∷ []) w) z (added (q .device) 0 w (only (q .setting)) (h .0 .0) (omega arith) (upto-only 0 (q .setting))))
-      (conditioned-spares qs (h .1) w small)
+      (conditioned-unrefused qs (h .1) w small)
 
-  based-spares : (t w : ℕ) → 1 ≤ length (m .shape) → w + t ≤ greatest-time → Block (based t) w (w + t)
-  based-spares t w one small = added 0 t w (λ _. Some t) (omega arith) small (λ x. omega arith)
+  based-unrefused : (t w : ℕ) → 1 ≤ length (m .shape) → w + t ≤ greatest-time → Block (based t) w (w + t)
+  based-unrefused t w one small = added 0 t w (λ _. Some t) (omega arith) small (λ x. omega arith)
 
   -- peg 2 has the chart x, peg 3 one of times up to t
   record Third (ps : Pegs) (x : Chart) (t : ℕ) : Type 0 where
@@ -117,14 +117,14 @@ module _ (m : Meaning) (a b : Option Chart) (rest : Pegs) where
     most : Most t chart
     is : ps ≡ a ∷ b ∷ Some x ∷ Some chart ∷ four ∷ rest
 
-  further-spares : (t : ℕ) (qs : List Pair) → All (Within (m .shape)) qs → t ≤ greatest-time → (x y : Chart) → Most t y → (e : Option Chart) →
+  further-unrefused : (t : ℕ) (qs : List Pair) → All (Within (m .shape)) qs → t ≤ greatest-time → (x y : Chart) → Most t y → (e : Option Chart) →
       Only-room-in (with-pegs m (a ∷ b ∷ Some x ∷ Some y ∷ e ∷ rest)) (further t qs) × Third (ran (m .shape) (a ∷ b ∷ Some x ∷ Some y ∷ e ∷ rest) (further t qs)) x t
-  further-spares t [] h small x y most e = (tt, record { chart = y; four = e; most = most; is = refl })
-  further-spares t (q ∷ qs) h small x y most e =
+  further-unrefused t [] h small x y most e = (tt, record { chart = y; four = e; most = most; is = refl })
+  further-unrefused t (q ∷ qs) h small x y most e =
       let f = dearer t (q .setting) in
       let z = dialled (m .shape) (q .device) (entries f) in
       let few = dialled-small m (q .device) t f (upto-dearer t (q .setting)) in
-      let more = further-spares t qs (h .1) small x (zipped lesser y z) (most-cheaper t y z most few) (Some z) in (
+      let more = further-unrefused t qs (h .1) small x (zipped lesser y z) (most-cheaper t y z most few) (Some z) in (
         (
           dials-small m (a ∷ b ∷ Some x ∷ Some y ∷ e ∷ rest) 4 (q .device) t f refl (omega arith) (h .0 .0) small (upto-dearer t (q .setting)),
           (cheapens (with-pegs m (a ∷ b ∷ Some x ∷ Some y ∷ Some z ∷ rest)) 3 3 4 refl (omega arith) refl, more .0),
@@ -132,20 +132,20 @@ module _ (m : Meaning) (a b : Option Chart) (rest : Pegs) where
         more .1,
       )
 
-  tested-spares : (t : ℕ) (qs : List Pair) → 1 ≤ length qs → All (Within (m .shape)) qs → t ≤ greatest-time → (x : Chart) (d e : Option Chart) →
+  tested-unrefused : (t : ℕ) (qs : List Pair) → 1 ≤ length qs → All (Within (m .shape)) qs → t ≤ greatest-time → (x : Chart) (d e : Option Chart) →
       Only-room-in (with-pegs m (a ∷ b ∷ Some x ∷ d ∷ e ∷ rest)) (tested t qs) × Third (ran (m .shape) (a ∷ b ∷ Some x ∷ d ∷ e ∷ rest) (tested t qs)) x t
-  tested-spares t [] some h small x d e = absurd (omega arith)
-  tested-spares t (q ∷ qs) some h small x d e =
+  tested-unrefused t [] some h small x d e = absurd (omega arith)
+  tested-unrefused t (q ∷ qs) some h small x d e =
       let f = dearer t (q .setting) in
-      let more = further-spares t qs (h .1) small x (dialled (m .shape) (q .device) (entries f)) (dialled-small m (q .device) t f (upto-dearer t (q .setting))) e in
+      let more = further-unrefused t qs (h .1) small x (dialled (m .shape) (q .device) (entries f)) (dialled-small m (q .device) t f (upto-dearer t (q .setting))) e in
       ((dials-small m (a ∷ b ∷ Some x ∷ d ∷ e ∷ rest) 3 (q .device) t f refl (omega arith) (h .0 .0) small (upto-dearer t (q .setting)), more .0), more .1)
 
   -- one surcharge
-  charge-spares : (x : Surcharge) → Lawful-surcharge (m .shape) x → (w : ℕ) → w + x .extra ≤ greatest-time → Block (tested (x .extra) (x .tests) ++ (sum 2 2 3 ∷ [])) w (w + x .extra)
-  charge-spares c law w small x most d e =
+  charge-unrefused : (x : Surcharge) → Lawful-surcharge (m .shape) x → (w : ℕ) → w + x .extra ≤ greatest-time → Block (tested (x .extra) (x .tests) ++ (sum 2 2 3 ∷ [])) w (w + x .extra)
+  charge-unrefused c law w small x most d e =
       let cs = tested (c .extra) (c .tests) in
       let ps : Pegs = a ∷ b ∷ Some x ∷ d ∷ e ∷ rest in
-      let n = tested-spares (c .extra) (c .tests) (law .some-tests) (law .pairs .within) (omega arith) x d e in
+      let n = tested-unrefused (c .extra) (c .tests) (law .some-tests) (law .pairs .within) (omega arith) x d e in
       let y = n .1 .chart in
       let qs : Pegs = a ∷ b ∷ Some x ∷ Some y ∷ n .1 .four ∷ rest in
       let last : Only-room-in (with-pegs m qs) (sum 2 2 3 ∷ []) =
@@ -161,27 +161,27 @@ module _ (m : Meaning) (a b : Option Chart) (rest : Pegs) where
         };
       }
 
-  surcharged-spares : (xs : List Surcharge) → All (Lawful-surcharge (m .shape)) xs → (w : ℕ) → w + total extra xs ≤ greatest-time → Block (surcharged xs) w (w + total extra xs)
-  surcharged-spares [] h w small = nothing w (w + 0) (omega arith)
-  surcharged-spares (x ∷ xs) h w small =
+  surcharged-unrefused : (xs : List Surcharge) → All (Lawful-surcharge (m .shape)) xs → (w : ℕ) → w + total extra xs ≤ greatest-time → Block (surcharged xs) w (w + total extra xs)
+  surcharged-unrefused [] h w small = nothing w (w + 0) (omega arith)
+  surcharged-unrefused (x ∷ xs) h w small =
       let z : w + x .extra + total extra xs ≡ w + (x .extra + total extra xs) = omega arith in
       let assoc : (tested (x .extra) (x .tests) ++ (sum 2 2 3 ∷ [])) ++ surcharged xs ≡ surcharged (x ∷ xs) = append-assoc (tested (x .extra) (x .tests)) (sum 2 2 3 ∷ []) (surcharged xs) in
       subst (λ cs. Block cs w (w + total extra (x ∷ xs))) assoc
       (then (tested (x .extra) (x .tests) ++ (sum 2 2 3 ∷ [])) (surcharged xs) w (w + x .extra) (w + total extra (x ∷ xs))
-      (charge-spares x (h .0) w (omega arith))
-      (subst (Block (surcharged xs) (w + x .extra)) z (surcharged-spares xs (h .1) (w + x .extra) (omega arith))))
+      (charge-unrefused x (h .0) w (omega arith))
+      (subst (Block (surcharged xs) (w + x .extra)) z (surcharged-unrefused xs (h .1) (w + x .extra) (omega arith))))
 
   -- all of a move's calls but the copy
-  pub rest-spares : (v : Move) → Lawful-move (m .shape) v → 1 ≤ length (m .shape) → (w : ℕ) → w + most-tenths ≤ greatest-time →
+  pub rest-unrefused : (v : Move) → Lawful-move (m .shape) v → 1 ≤ length (m .shape) → (w : ℕ) → w + most-tenths ≤ greatest-time →
       Block (effected (v .effects) ++ (conditioned (v .conditions) ++ (based (v .base) ++ surcharged (v .surcharges)))) w (w + most-tenths)
-  rest-spares v law one w small =
+  rest-unrefused v law one w small =
       let top = w + v .base + total extra (v .surcharges) in
       let most : v .base + total extra (v .surcharges) ≤ most-tenths = law .most in
       let all : Block (effected (v .effects) ++ (conditioned (v .conditions) ++ (based (v .base) ++ surcharged (v .surcharges)))) w top =
-      then (effected (v .effects)) _ w w top (effected-spares (v .effects) (law .effected .within) w)
-      (then (conditioned (v .conditions)) _ w w top (conditioned-spares (v .conditions) (law .conditioned .within) w (omega arith))
-      (then (based (v .base)) (surcharged (v .surcharges)) w (w + v .base) top (based-spares (v .base) w one (omega arith))
-      (surcharged-spares (v .surcharges) (law .surcharged) (w + v .base) (omega arith)))) in
+      then (effected (v .effects)) _ w w top (effected-unrefused (v .effects) (law .effected .within) w)
+      (then (conditioned (v .conditions)) _ w w top (conditioned-unrefused (v .conditions) (law .conditioned .within) w (omega arith))
+      (then (based (v .base)) (surcharged (v .surcharges)) w (w + v .base) top (based-unrefused (v .base) w one (omega arith))
+      (surcharged-unrefused (v .surcharges) (law .surcharged) (w + v .base) (omega arith)))) in
       λ x few d e.
       let s = all x few d e in
       let n = s .kept in
