@@ -10,6 +10,7 @@ pub mod open;
 pub mod pair;
 pub mod perform;
 pub mod unopened;
+pub mod view;
 pub mod want;
 mod bounded;
 mod judge;

@@ -7,3 +7,4 @@ pub mod Tables
 pub mod Performing
 pub mod Ways
 pub mod Keeping
+pub mod Alike

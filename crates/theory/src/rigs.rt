@@ -4,6 +4,7 @@ ghost use Rattle.theory.specs.Tables.{Moves-lawful, Tables-lawful};
 ghost use Rattle.theory.specs.Keeping.{Openings-lawful, Calls-keep};
 ghost use Rattle.theory.specs.Performing.{Ways-are-runs, Performs-keep};
 ghost use Rattle.theory.specs.Ways.{Walks-best, Never-none};
+ghost use Rattle.theory.specs.Alike.{Ways-alike, Best-alike};
 
 pub fn lawful_contents_are_well_formed() -> u8
     ensures { λ _. ⌜ Contents-told ⌝ }
@@ -53,8 +54,20 @@ pub fn openings_leave_lawful_contents() -> u8
     0
 }
 
+pub fn alike_contents_have_the_same_ways() -> u8
+    ensures { λ _. ⌜ Ways-alike ⌝ }
+{
+    0
+}
+
 pub fn calls_keep_contents_lawful() -> u8
     ensures { λ _. ⌜ Calls-keep ⌝ }
+{
+    0
+}
+
+pub fn alike_contents_have_one_best_way() -> u8
+    ensures { λ _. ⌜ Best-alike ⌝ }
 {
     0
 }

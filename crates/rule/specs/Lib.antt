@@ -1,0 +1,4 @@
+pub mod Steps
+pub mod Running
+pub mod Rule
+pub mod Bridge
