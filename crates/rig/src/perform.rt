@@ -1,6 +1,6 @@
 //! Perform, withdraw and look: the calls that take one number.
 ghost use mathlib.Core.Path.{_≡_};
-ghost use Rattle.model.specs.Calls.{withdraws, withdrawn, performs, performed, looks};
+ghost use Rattle.model.specs.Calls.{withdraws, withdrawn, performs, performed, Moved, looks};
 ghost use Rattle.rig.specs.Faults.{numbered};
 ghost use Rattle.rig.specs.Rigs.{contents};
 use crate::fault::RigFault;
@@ -13,6 +13,7 @@ impl Rig {
     pub fn perform(&mut self, number: usize) -> Result<u32, RigFault>
         ensures answer { λ r. ⌜ numbered r ≡ performs (contents (now (self .entry))) number ⌝ }
         ensures left { λ _. ⌜ contents (now (self .exit)) ≡ performed (contents (now (self .entry))) number ⌝ }
+        ensures moved { λ r. ⌜ Moved (contents (now (self .entry))) number (numbered r) (contents (now (self .exit))) ⌝ }
     {
         let entry = occupied(self.slots.as_slice(), number)?;
         let mut scene = self.devices.scene;

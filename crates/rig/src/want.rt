@@ -1,7 +1,7 @@
 //! Want, and whether the present scene is wanted.
 ghost use mathlib.Core.Path.{_≡_};
 ghost use Rattle.model.specs.Masks.{wanted};
-ghost use Rattle.model.specs.Calls.{wants, wanting};
+ghost use Rattle.model.specs.Calls.{wants, wanting, Counts-wanted};
 ghost use Rattle.rig.specs.Faults.{numbered};
 ghost use Rattle.rig.specs.Rigs.{contents};
 use crate::fault::RigFault;
@@ -14,6 +14,7 @@ impl Rig {
     pub fn want(&mut self, masks: &[u8]) -> Result<u64, RigFault>
         ensures answer { λ r. ⌜ numbered r ≡ wants (contents (now (self .entry))) (now (masks .entry)) ⌝ }
         ensures left { λ _. ⌜ contents (now (self .exit)) ≡ wanting (contents (now (self .entry))) (now (masks .entry)) ⌝ }
+        ensures counted { λ r. ⌜ Counts-wanted (contents (now (self .entry))) (now (masks .entry)) (numbered r) ⌝ }
     {
         let settings = self.devices.settings;
         if masks.len() != settings.as_slice().len() {

@@ -8,6 +8,7 @@ use Rattle.model.specs.Scenes.{Scene}
 use Rattle.model.specs.Moves.{applied, time}
 use Rattle.model.specs.Contents.{with-scene}
 use Rattle.model.specs.Calls.{performs, performed, Lawful}
+use Rattle.theory.proofs.Moving.{moved}
 use Rattle.rig.specs.declared.pair.Pair.{Pair}
 use Rattle.rig.specs.declared.fault.RigFault.the-variants.{ConditionUnmet}
 use Rattle.rig.specs.Views.{move-of, pairs-of, slot-of}
@@ -25,7 +26,7 @@ returns-in-Break-entry c =
     let seen = ap (map slot-of) (sym (c .as-slice .ensures .value)) in
     let w = performs-none (contents s) (c .as-slice .result .now) seen n f (c .in-Break-entry .ensures tt) in
     let q = refused-by (performs (contents s) n) _ (contents s) f w (c .from-residual .result) (c .from-residual .ensures .1) in
-    record { answer = q .answer; left = q .left }
+    record { answer = q .answer; left = q .left; moved = moved (contents s) n (lawful-rig s) _ _ (q .answer) (q .left) }
 
 pub returns-then-not-every-holds : need.returns-then-not-every-holds
 returns-then-not-every-holds c =
@@ -36,7 +37,7 @@ returns-then-not-every-holds c =
     let fails = said-of (c .as-slice-3 .result .now) (listed (s .devices .scene)) (c .as-slice-2 .result .now) (listed (m .conditions)) false (c .as-slice-3 .ensures .value) (c .as-slice-2 .ensures .value) (c .if-not-every-holds .ensures tt) in
     let w = performs-unmet (contents s) (c .as-slice .result .now) seen n m (c .in-Continue-entry .ensures tt) fails in
     let q = refused (performs (contents s) n) _ (contents s) ConditionUnmet w (Err ConditionUnmet) refl in
-    record { answer = q .answer; left = q .left }
+    record { answer = q .answer; left = q .left; moved = moved (contents s) n (lawful-rig s) _ _ (q .answer) (q .left) }
 
 pub ghost-self : need.ghost-self
 ghost-self c =
@@ -63,7 +64,6 @@ returns c =
     let e = c .in-Continue-entry .ensures tt in
     let new : listed (c .apply .last .scene) ≡ applied (pairs-of (listed (m .effects))) (listed (s .devices .scene)) =
       c .apply .ensures ∙ ap (λ (ps : List Pair). applied (pairs-of ps) (listed (s .devices .scene))) effects in
-    record {
-      answer = ap Ok (c .time-time .ensures ∙ ap (time (move-of m)) (c .as-slice-4 .ensures .value)) ∙ sym (performs-met (contents s) (c .as-slice .result .now) seen n m e holds);
-      left = ap (with-scene (contents s)) new ∙ sym (performed-met (contents s) (c .as-slice .result .now) seen n m e holds);
-    }
+    let answer = ap Ok (c .time-time .ensures ∙ ap (time (move-of m)) (c .as-slice-4 .ensures .value)) ∙ sym (performs-met (contents s) (c .as-slice .result .now) seen n m e holds) in
+    let left = ap (with-scene (contents s)) new ∙ sym (performed-met (contents s) (c .as-slice .result .now) seen n m e holds) in
+    record { answer = answer; left = left; moved = moved (contents s) n (lawful-rig s) _ _ answer left }
