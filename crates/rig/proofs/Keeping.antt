@@ -18,9 +18,9 @@ use Rattle.model.specs.Contents.{Contents, Name}
 use Rattle.model.specs.Calls.{Lawful, open-checks, want-checks, lawful-slot}
 use Rattle.model.proofs.Ranks.{scene-length}
 use Rattle.theory.proofs.Told.{contents-told}
-use Rattle.rig.specs.declared.moves.Move.{Move}
+use Rattle.moves.specs.declared.entry.Move.{Move}
 use Rattle.rig.specs.declared.frame.Rig.{Rig}
-use Rattle.rig.specs.Views.{slot-of}
+use Rattle.moves.specs.Views.{slot-of}
 use Rattle.rig.specs.Rigs.{contents}
 use Rattle.rig.proofs.Seen.{slot-at}
 

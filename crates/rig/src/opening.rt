@@ -8,11 +8,11 @@ ghost use Rattle.model.specs.Limits.{outside, least-settings, most-settings, le
 ghost use Rattle.model.specs.Lists.{some, some-two};
 ghost use Rattle.model.specs.Scenes.{shape-off as is-shape-off};
 ghost use Rattle.model.specs.Calls.{counts-off as are-counts-off, opens};
-ghost use Rattle.rig.specs.Faults.{numbered};
+ghost use Rattle.moves.specs.Faults.{numbered};
 use lists::names::Name;
 use lists::names::NameKeyed;
-use crate::fault::RigFault;
-use crate::limits::*;
+use moves::fault::RigFault;
+use moves::limits::*;
 use lists::repeats::first_repeat;
 
 /// Whether a number lies below the least or above the most.

@@ -1,11 +1,11 @@
 //! Perform, withdraw and look: the calls that take one number.
 ghost use mathlib.Core.Path.{_≡_};
 ghost use Rattle.model.specs.Calls.{withdraws, withdrawn, performs, performed, Moved, looks};
-ghost use Rattle.rig.specs.Faults.{numbered};
+ghost use Rattle.moves.specs.Faults.{numbered};
 ghost use Rattle.rig.specs.Rigs.{contents};
-use crate::fault::RigFault;
+use moves::fault::RigFault;
 use crate::frame::Rig;
-use crate::scene::*;
+use moves::scene::*;
 use crate::slots::*;
 
 impl Rig {
@@ -17,11 +17,11 @@ impl Rig {
     {
         let entry = occupied(self.slots.as_slice(), number)?;
         let mut scene = self.devices.scene;
-        if !every_holds(entry.conditions.as_slice(), scene.as_slice()) {
+        if !every_holds(entry.conditions(), scene.as_slice()) {
             return Err(RigFault::ConditionUnmet);
         }
         let time = entry.time(scene.as_slice());
-        apply(entry.effects.as_slice(), &mut scene);
+        apply(entry.effects(), &mut scene);
         self.devices.scene = scene;
         Ok(time)
     }

@@ -1,5 +1,5 @@
-use crate::fault::RigFault;
-use crate::moves::Move;
+use moves::fault::RigFault;
+use moves::entry::Move;
 
 /// A refused opening: why, and the table of slots as it was handed over.
 #[derive(Drop)]

@@ -2,9 +2,9 @@
 ghost use mathlib.Core.Path.{_≡_};
 ghost use Rattle.model.specs.Masks.{wanted};
 ghost use Rattle.model.specs.Calls.{wants, wanting, Counts-wanted};
-ghost use Rattle.rig.specs.Faults.{numbered};
+ghost use Rattle.moves.specs.Faults.{numbered};
 ghost use Rattle.rig.specs.Rigs.{contents};
-use crate::fault::RigFault;
+use moves::fault::RigFault;
 use crate::frame::Rig;
 use crate::masks::*;
 use lists::short::Short;

@@ -12,8 +12,9 @@ use Rattle.lists.specs.Shorts.{listed}
 use Rattle.model.specs.Moves as model
 use Rattle.model.specs.Contents.{with-slots}
 use Rattle.model.specs.Calls.{adds, move-checks}
-use Rattle.rig.specs.Faults.{number}
-use Rattle.rig.specs.Views.{slot-of, draft-of}
+use Rattle.moves.specs.Faults.{number}
+use Rattle.moves.specs.Views.{slot-of}
+use Rattle.drafts.specs.Drafts.{draft-of}
 use Rattle.rig.specs.Rigs.{contents}
 use Rattle.rig.proofs.Answering.{refused-by, accepted-left}
 use Rattle.rig.proofs.Editing.{adds-judged, move-lawful}

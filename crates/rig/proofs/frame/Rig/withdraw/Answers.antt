@@ -12,8 +12,8 @@ use Rattle.std.proofs.shelf.Lists.{refilled-is, map-set}
 use Rattle.lists.specs.Shorts.{listed}
 use Rattle.model.specs.Contents.{with-slots}
 use Rattle.model.specs.Calls.{withdraws}
-use Rattle.rig.specs.declared.moves.Move.{Move}
-use Rattle.rig.specs.Views.{slot-of}
+use Rattle.moves.specs.declared.entry.Move.{Move}
+use Rattle.moves.specs.Views.{slot-of}
 use Rattle.rig.specs.Rigs.{contents}
 use Rattle.rig.proofs.Answering.{refused-by, accepted-left}
 use Rattle.rig.proofs.Seen.{no-move, move-passed, move-within}
