@@ -6,3 +6,4 @@ pub mod limits;
 pub mod pair;
 pub mod parts;
 pub mod scene;
+pub mod words;
