@@ -9,7 +9,7 @@ ghost use Rattle.moves.specs.Views.{surcharge-of, move-of};
 ghost use Rattle.drafts.specs.Drafts.{charge-of, charges-of, draft-of};
 use crate::draft::Charge;
 use crate::draft::Draft;
-use moves::limits::*;
+use lists::limits::*;
 use moves::entry::Move;
 use moves::entry::Surcharge;
 use moves::pair::Pair;

@@ -11,7 +11,7 @@ ghost use Rattle.moves.specs.Views.{pair-of, pairs-of};
 ghost use Rattle.drafts.specs.Drafts.{charge-of, charges-of};
 use crate::draft::Charge;
 use moves::fault::RigFault;
-use moves::limits::*;
+use lists::limits::*;
 use moves::pair::Pair;
 use moves::pair::PairKeyed;
 use lists::repeats::first_repeat;

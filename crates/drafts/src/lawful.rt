@@ -12,7 +12,7 @@ use crate::draft::Draft;
 use moves::fault::RigFault;
 use crate::judge::judge_pairs;
 use crate::judge::times_off;
-use moves::limits::*;
+use lists::limits::*;
 use moves::entry::Move;
 use moves::entry::Surcharge;
 use lists::short::Short;

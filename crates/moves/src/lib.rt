@@ -2,7 +2,6 @@
 pub mod entry;
 pub mod fault;
 pub mod fit;
-pub mod limits;
 pub mod pair;
 pub mod parts;
 pub mod scene;

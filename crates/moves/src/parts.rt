@@ -6,7 +6,7 @@ ghost use Rattle.moves.specs.Views.{pairs-of, surcharge-of, move-of};
 ghost use Rattle.model.specs.Calls.{retiming};
 use crate::entry::Move;
 use crate::entry::Surcharge;
-use crate::limits::*;
+use lists::limits::*;
 use crate::pair::Pair;
 use lists::short::Short;
 

@@ -5,7 +5,7 @@ ghost use mathlib.Core.Path.{_≡_};
 ghost use Rattle.lists.specs.Shorts.{listed};
 ghost use Rattle.model.specs.Moves.{holds as holds-in, all-hold, charged, time as time-of, applied};
 ghost use Rattle.moves.specs.Views.{pair-of, pairs-of, surcharge-of, move-of};
-use crate::limits::*;
+use lists::limits::*;
 use crate::entry::Move;
 use crate::entry::Surcharge;
 use crate::pair::Pair;

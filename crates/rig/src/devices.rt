@@ -1,4 +1,4 @@
-use moves::limits::*;
+use lists::limits::*;
 use lists::names::Name;
 use lists::short::Short;
 use lists::short::ShortClone;

@@ -14,7 +14,7 @@ ghost use Rattle.rig.specs.Openings.{Stood, Opened};
 use crate::devices::Devices;
 use moves::fault::RigFault;
 use crate::frame::Rig;
-use moves::limits::*;
+use lists::limits::*;
 use moves::entry::Move;
 use crate::opening::judge_opening;
 use crate::slots::vacate;

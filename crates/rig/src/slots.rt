@@ -8,7 +8,7 @@ ghost use Rattle.lists.specs.Shorts.{listed};
 ghost use Rattle.moves.specs.Views.{surcharge-of};
 ghost use Rattle.rig.specs.Slots.{in-use-at, vacant-at, Retimed};
 use moves::fault::RigFault;
-use moves::limits::*;
+use lists::limits::*;
 use moves::entry::Move;
 use moves::entry::Surcharge;
 use lists::short::Short;

@@ -1,7 +1,7 @@
 use mathlib.Core.Path.{sym}
 use Rattle.model.specs.Limits.{outside}
 use Rattle.model.proofs.Testing.{some-here, some-on, some-end}
-use Rattle.rig.proofs.opening.some_outside.Needs as need
+use Rattle.lists.proofs.counts.some_outside.Needs as need
 
 pub returns-then-is-outside : need.returns-then-is-outside
 returns-then-is-outside c =
