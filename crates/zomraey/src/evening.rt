@@ -35,7 +35,7 @@ fn slower_when_lit(heap: Global, draft: Draft, extra: u16) -> Result<Draft, AnyE
 }
 
 /// The rig at the start: the lamp is on, it is day, and any scene with a dark sky is wanted.
-pub fn open(heap: Global) -> Result<Rig, AnyError> {
+pub(crate) fn open(heap: Global) -> Result<Rig, AnyError> {
     let slots = vec![in heap; None; 4]?;
     let mut rig = match Rig::open(&[2, 3], &[*b"LAMP    ", *b"SKY     "], &[ON, DAY], slots) {
         Ok(rig) => rig,
