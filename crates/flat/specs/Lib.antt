@@ -1,2 +1,5 @@
 pub mod Joins
 pub mod Writes
+pub mod Rows
+pub mod Means
+pub mod Openings

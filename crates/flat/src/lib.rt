@@ -2,3 +2,4 @@
 pub mod entries;
 pub mod rows;
 pub mod runs;
+pub mod store;

@@ -3,6 +3,7 @@ ghost use Prim.Native.Nat.{ℕ, _+_, _*_, _<_, _≤_};
 ghost use lib.ListN.{length, getD};
 ghost use Rattle.std.specs.declared.option.Option.the-variants.{None};
 ghost use Rattle.flat.specs.Writes.{Apart, Written, Runs, Blocks, Source};
+use shelf::limits::MOST_SETTINGS;
 
 /// How a row falls into blocks, each with a run of cells for each setting of one device.
 #[derive(Clone, Copy)]
@@ -23,7 +24,7 @@ fn fill_run(cells: &mut [Option<u64>], base: usize, n: usize, value: Option<u64>
 }
 
 /// Writes each setting's entry into its run of a block.
-fn dial_block(cells: &mut [Option<u64>], base: usize, strides: Strides, entries: &[Option<u64>; 8])
+fn dial_block(cells: &mut [Option<u64>], base: usize, strides: Strides, entries: &[Option<u64>; MOST_SETTINGS])
     requires within { ⌜ base + strides .count * strides .stride ≤ length (now cells) ⌝ }
     requires few { ⌜ strides .count ≤ 8 ⌝ }
     ensures runs { λ _. ⌜ Runs (strides .count) (strides .stride) base (λ d _. getD (now (entries .entry)) d None) (now (cells .entry)) (now (cells .exit)) ⌝ }
@@ -34,7 +35,7 @@ fn dial_block(cells: &mut [Option<u64>], base: usize, strides: Strides, entries:
 }
 
 /// Writes each setting's entry into its runs of a row.
-pub fn dial_row(cells: &mut [Option<u64>], base: usize, strides: Strides, entries: &[Option<u64>; 8])
+pub fn dial_row(cells: &mut [Option<u64>], base: usize, strides: Strides, entries: &[Option<u64>; MOST_SETTINGS])
     requires some { ⌜ 0 < strides .blocks ⌝ }
     requires within { ⌜ base + strides .blocks * (strides .count * strides .stride) ≤ length (now cells) ⌝ }
     requires few { ⌜ strides .count ≤ 8 ⌝ }

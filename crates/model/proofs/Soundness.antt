@@ -21,9 +21,17 @@ use Rattle.model.specs.Charts.{Time, Chart, lesser, greater, plus, zipped, dia
 use Rattle.model.specs.Refusals.{Check, refuse, answer, left-by}
 use Rattle.model.specs.Shelves.{Meaning, Pegs, Call, dial, cheaper, sum, put, Sound, chart-of, on, bare, high, hung, target, after, with-pegs, call-checks, does, done, wipes, wiped}
 use Rattle.model.specs.ChartLaws.{Stays-sound, No-later}
-use Rattle.model.proofs.Refusing.{accepted, left-either}
+use Rattle.model.proofs.Refusing.{accepted, left-ok, left-err, left-either}
 use Rattle.model.proofs.Charting.{zipped-length, put-length, lengths}
 use Rattle.model.proofs.Lateness.{late-tells, legal-under, latest}
+
+-- What a call leaves
+
+pub call-refused : (m : Meaning) (c : Call) (n : ℕ) → does m c ≡ Err n → done m c ≡ m
+call-refused m c n e = left-err (does m c) n (with-pegs m (after (m .shape) (m .pegs) c)) m e
+
+pub call-accepted : (m : Meaning) (c : Call) → does m c ≡ Ok tt → done m c ≡ with-pegs m (after (m .shape) (m .pegs) c)
+call-accepted m c e = left-ok (does m c) tt (with-pegs m (after (m .shape) (m .pegs) c)) m e
 
 -- Pegs
 
@@ -47,7 +55,7 @@ module _ (m : Meaning) (s : Sound m) where
   pub legal-on : (p : ℕ) → bare (m .pegs) p ≡ false → some late (on (m .pegs) p) ≡ false
   legal-on p e = carries (λ c. some late c ≡ false) (getD (m .pegs) p None) e (s .timely p)
 
-  sound-hung : (t : ℕ) (c : Chart) → length c ≡ size (m .shape) → some late c ≡ false → Sound (with-pegs m (set (m .pegs) t (Some c)))
+  pub sound-hung : (t : ℕ) (c : Chart) → length c ≡ size (m .shape) → some late c ≡ false → Sound (with-pegs m (set (m .pegs) t (Some c)))
   sound-hung t c l k = record {
     legal = s .legal;
     eight = length-set (m .pegs) t (Some c) ∙ s .eight;
@@ -55,7 +63,7 @@ module _ (m : Meaning) (s : Sound m) where
     timely = each-hung (λ d. some late d ≡ false) (m .pegs) t (Some c) k (s .timely);
   }
 
-  greatest-on : (p : ℕ) → bare (m .pegs) p ≡ false → late (greatest (on (m .pegs) p)) ≡ false
+  pub greatest-on : (p : ℕ) → bare (m .pegs) p ≡ false → late (greatest (on (m .pegs) p)) ≡ false
   greatest-on p e = sym (late-tells (on (m .pegs) p)) ∙ legal-on p e
 
   both-late : (a b : Time) → late a ≡ false → late b ≡ false → late (greater a b) ≡ false
@@ -74,7 +82,7 @@ module _ (m : Meaning) (s : Sound m) where
       zipped-length plus (on (m .pegs) a) (on (m .pegs) b) (whole-on a (both .0) ∙ sym (whole-on b (both .1))) ∙ whole-on a (both .0)
   hung-whole (put t a v d) h = put-length (m .shape) v d (on (m .pegs) a)
 
-  hung-legal : (c : Call) → All (λ k. k .holds ≡ false) (call-checks m c) → some late (hung (m .shape) (m .pegs) c) ≡ false
+  pub hung-legal : (c : Call) → All (λ k. k .holds ≡ false) (call-checks m c) → some late (hung (m .shape) (m .pegs) c) ≡ false
   hung-legal (dial t v es) h =
       legal-under (dialled (m .shape) v es) (greatest (take (getD (m .shape) v 0) es))
       (latest .of-dialled (m .shape) v es (leb-false (length (m .shape)) v (h .0)))

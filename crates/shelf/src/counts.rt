@@ -18,7 +18,8 @@ fn some_off(settings: &[u8]) -> bool
     ensures value { λ r. ⌜ r ≡ some (outside least-settings most-settings) (now (settings .entry)) ⌝ }
 {
     for count in settings {
-        if *count < LEAST_SETTINGS || *count > MOST_SETTINGS {
+        let n = *count as usize;
+        if n < LEAST_SETTINGS || n > MOST_SETTINGS {
             return true;
         }
     }

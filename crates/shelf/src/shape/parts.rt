@@ -47,6 +47,23 @@ impl Shape {
         &all[0..self.devices]
     }
 
+    /// How many devices there are.
+    pub fn devices(&self) -> usize
+        ensures value { λ r. ⌜ r ≡ length (shape-of (now (self .entry))) ⌝ }
+    {
+        self.devices
+    }
+
+    /// How many settings a device has.
+    pub fn count(&self, device: usize) -> usize
+        requires low { ⌜ device < length (shape-of (now self)) ⌝ }
+        ensures value { λ r. ⌜ r ≡ getD (shape-of (now (self .entry))) device 0 ⌝ }
+        ensures bound { λ r. ⌜ r ≤ 8 ⌝ }
+    {
+        let settings = self.settings();
+        settings[device] as usize
+    }
+
     /// How many scenes there are.
     pub fn scenes(&self) -> usize
         ensures value { λ r. ⌜ r ≡ size (shape-of (now (self .entry))) ⌝ }
