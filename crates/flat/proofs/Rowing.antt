@@ -17,8 +17,8 @@ use Rattle.model.proofs.Testing.{none-at}
 use Rattle.model.proofs.Sizes.{size-split}
 use Rattle.model.proofs.Strides.{stride, spot, dialled-by-strides, put-by-strides}
 use Rattle.flat.specs.Rows.{row}
-use Rattle.flat.specs.Writes.{Outside, Apart, Written, Blocks}
-use Rattle.flat.proofs.Writing.{next-row, in-block}
+use Rattle.cells.specs.Writes.{Outside, Apart, Written, Blocks}
+use Rattle.cells.proofs.Writing.{next-row, in-block}
 
 -- Places of rows
 

@@ -1,7 +1,7 @@
 ghost use Rattle.flat.specs.Means.{means};
-use crate::entries::Join;
-use crate::rows::same_rows;
-use crate::rows::some_late;
+use cells::entries::Join;
+use cells::rows::same_rows;
+use cells::rows::some_late;
 use crate::store::FlatShelf;
 use shelf::calls::Shelf;
 use shelf::fault::ShelfFault;

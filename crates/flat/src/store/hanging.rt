@@ -7,15 +7,15 @@ ghost use Rattle.model.specs.Charts.{late, plus, zipped, dialled, put-chart, gr
 ghost use Rattle.model.specs.Lists.{some};
 ghost use Rattle.model.specs.Scenes.{size};
 ghost use Rattle.shelf.specs.Shapes.{shape-of};
-ghost use Rattle.flat.specs.Joins.{joins};
+ghost use Rattle.cells.specs.Joins.{joins};
 ghost use Rattle.flat.specs.Means.{means, row-of, hanging};
-use crate::entries::Join;
-use crate::entries::sum_is_late;
-use crate::rows::greatest;
-use crate::rows::join_rows;
-use crate::runs::dial_row;
-use crate::runs::put_row;
-use crate::runs::Strides;
+use cells::entries::Join;
+use cells::entries::sum_is_late;
+use cells::rows::greatest;
+use cells::rows::join_rows;
+use cells::runs::dial_row;
+use cells::runs::put_row;
+use cells::runs::Strides;
 use crate::store::FlatShelf;
 use shelf::limits::MOST_SETTINGS;
 

@@ -14,9 +14,9 @@ use Rattle.model.specs.Charts.{Time, late, zipped}
 use Rattle.model.proofs.Charting.{zipped-at, zipped-length}
 use Rattle.model.proofs.Testing.{none-at}
 use Rattle.shelf.specs.Shapes.{shape-of}
-use Rattle.flat.specs.Joins.{joins}
+use Rattle.cells.specs.Joins.{joins}
 use Rattle.flat.specs.Rows.{row, flat, Timely}
-use Rattle.flat.specs.Writes.{Written}
+use Rattle.cells.specs.Writes.{Written}
 use Rattle.flat.proofs.Rowing.{within-row, apart-rows, joined-legal, joined-left}
 use Rattle.flat.proofs.Hanging.{flat-hung, timely-hung}
 use Rattle.flat.proofs.store.FlatShelf.hang_joined.Needs as need

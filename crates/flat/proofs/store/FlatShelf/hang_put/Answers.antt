@@ -12,7 +12,7 @@ use Rattle.model.specs.Charts.{Time}
 use Rattle.model.proofs.Sizes.{size-some, legal-take}
 use Rattle.shelf.specs.Shapes.{shape-of}
 use Rattle.flat.specs.Rows.{flat, Timely}
-use Rattle.flat.specs.Writes.{Apart}
+use Rattle.cells.specs.Writes.{Apart}
 use Rattle.flat.proofs.Rowing.{within-row, apart-rows, row-size, put-left}
 use Rattle.flat.proofs.Hanging.{flat-hung, timely-hung}
 use Rattle.flat.proofs.store.FlatShelf.hang_put.Needs as need

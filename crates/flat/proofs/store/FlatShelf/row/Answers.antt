@@ -1,7 +1,7 @@
 use native.Mathlib.Omega.{arith}
 use Prim.Native.Nat.{_+_, _*_, _≤_}
 use lib.ListN.{length}
-use Rattle.flat.proofs.Writing.{rows-up}
+use Rattle.cells.proofs.Writing.{rows-up}
 use Rattle.flat.proofs.Rowing.{within-row}
 use Rattle.flat.proofs.store.FlatShelf.row.Needs as need
 
