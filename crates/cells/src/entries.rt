@@ -27,9 +27,9 @@ pub fn greater(a: Option<u64>, b: Option<u64>) -> Option<u64>
     ensures value { λ r. ⌜ r ≡ greater-of a b ⌝ }
 {
     match (a, b) {
-        (None, y) => y,
-        (Some(x), None) => Some(x),
         (Some(x), Some(y)) => Some(x.max(y)),
+        (Some(_), None) => a,
+        (None, _) => b,
     }
 }
 

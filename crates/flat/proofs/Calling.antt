@@ -1,24 +1,24 @@
 -- The calls of a flat shelf: when they are refused, and what they leave. Assumes nothing.
-use mathlib.Core.Path.{_≡_, refl, sym, ap, ap₂, subst, _∙_}
-use mathlib.Core.Bool.{Bool, true, false, cond, not, _||_, _&&_}
-use mathlib.Core.List.{List, [], _∷_, _++_}
-use mathlib.Core.Logic.{_⊎_, inl, inr, ⊎-elim}
-use Prim.Native.Nat.{ℕ, _+_, _*_, _<_, _≤_}
+use mathlib.Core.Path.{_≡_, refl, sym, ap, ap₂, _∙_}
+use mathlib.Core.Bool.{Bool, true, false, _||_, _&&_}
+use mathlib.Core.List.{List, [], _∷_}
+use mathlib.Core.Logic.{_⊎_, inl, inr}
+use Prim.Native.Nat.{ℕ, _<_, _≤_}
 use native.Mathlib.Omega.{arith}
 use lib.Dec.{leb, ltb}
-use lib.ListN.{length, getD, set, take}
+use lib.ListN.{length, getD, take}
 use Rattle.std.specs.shelf.Lists.{All}
-use Rattle.std.proofs.shelf.Tests.{or-left, or-right, or-from, or-parts, and-right, and-from, lt-leb, le-leb, lt-ltb}
-use Rattle.std.specs.declared.option.Option.the-variants.{Some, None}
+use Rattle.std.proofs.shelf.Tests.{or-left, or-right, or-from, and-right, and-from, lt-leb, le-leb, lt-ltb}
+use Rattle.std.specs.declared.option.Option.the-variants.{None}
 use Rattle.std.specs.declared.result.Result.the-variants.{Ok, Err}
-use Rattle.model.specs.Lists.{some, some-two}
+use Rattle.model.specs.Lists.{some}
 use Rattle.model.specs.Scenes.{Shape, Scene, size, rank}
 use Rattle.model.specs.Charts.{Time, Chart, at, lesser, plus, zipped, dialled, put-chart, greatest, late, same-chart}
-use Rattle.model.specs.Refusals.{Check, refuse, answer}
-use Rattle.model.specs.Shelves.{Meaning, Sound, Call, dial, cheaper, sum, put, on, bare, high, hung as hung-by, no-room, call-checks, does, done, compares, reads, scene-checks}
+use Rattle.model.specs.Refusals.{refuse, answer}
+use Rattle.model.specs.Shelves.{Meaning, Sound, dial, cheaper, sum, put, on, bare, high, no-room, call-checks, does, done, compares, reads, scene-checks}
 use Rattle.model.proofs.Refusing.{refuses, accepts, accepted, accepted-is, accepted-first, refused-first}
 use Rattle.model.proofs.Ranks.{rank-less, tests-scene}
-use Rattle.model.proofs.Soundness.{call-refused, call-accepted, hung-legal}
+use Rattle.model.proofs.Soundness.{call-accepted, hung-legal}
 use Rattle.flat.specs.Rows.{row, flat}
 use Rattle.flat.specs.Means.{hanging}
 use Rattle.flat.proofs.Hanging.{bare-at, row-on}
@@ -33,10 +33,10 @@ pub all-low : (t l r : ℕ) → t < 8 → l < 8 → r < 8 → (high t || (high l
 all-low t l r ht hl hr = or-from (high t) (high l || high r) (low-peg t ht) (low-pegs l r hl hr)
 
 -- the place of a scene that passes its checks
-pub placed : (ns : Shape) (s : Scene) (k : ℕ) → answer (scene-checks ns s) (rank ns s) ≡ Ok k → (k ≡ rank ns s) × (k < size ns)
+pub placed : (ns : Shape) (s : Scene) (k : ℕ) → Ok k ≡ answer (scene-checks ns s) (rank ns s) → (k ≡ rank ns s) × (k < size ns)
 placed ns s k e =
-    let checks = accepted (scene-checks ns s) (rank ns s) k e in
-    let same = accepted-is (scene-checks ns s) (rank ns s) k e in
+    let checks = accepted (scene-checks ns s) (rank ns s) k (sym e) in
+    let same = accepted-is (scene-checks ns s) (rank ns s) k (sym e) in
     (sym same, omega (arith, same, rank-less ns s (tests-scene ns s (checks .0) (checks .1 .0))))
 
 module _ (ns : Shape) (cells : List Time) (hung : List Bool) where
@@ -56,10 +56,13 @@ module _ (ns : Shape) (cells : List Time) (hung : List Bool) where
     compares-bare b = refuses (refuse 14 (high l || high r) ∷ []) 15 (bare (m .pegs) l || bare (m .pegs) r) [] _ (low-pegs l r hl hr, tt) (one-bare b)
 
     module _ (el : getD hung l false ≡ true) (er : getD hung r false ≡ true) where
-      pub compares-rows : compares m l r ≡ Ok (same-chart (row cells (size ns) l) (row cells (size ns) r))
-      compares-rows =
+      same-rows : compares m l r ≡ Ok (same-chart (row cells (size ns) l) (row cells (size ns) r))
+      same-rows =
           accepts (refuse 14 (high l || high r) ∷ refuse 15 (bare (m .pegs) l || bare (m .pegs) r) ∷ []) _ (low-pegs l r hl hr, (none-bare el er, tt))
           ∙ ap Ok (ap₂ same-chart (row-on ns cells hung l hl el) (row-on ns cells hung r hr er))
+
+      pub compares-rows : (a b : Chart) (x : Bool) → x ≡ same-chart a b → a ≡ row cells (size ns) l → b ≡ row cells (size ns) r → Ok x ≡ compares m l r
+      compares-rows a b x e ea eb = ap Ok (e ∙ ap₂ same-chart ea eb) ∙ sym same-rows
 
     module _ (t : ℕ) (ht : t < 8) where
       -- a call that joins two charts is refused for a bare peg
@@ -79,8 +82,8 @@ module _ (ns : Shape) (cells : List Time) (hung : List Bool) where
         pub cheaper-does : does m (cheaper t l r) ≡ Ok tt
         cheaper-does = accepts (call-checks m (cheaper t l r)) tt cheaper-checks
 
-        pub cheaper-done : hanging m t (zipped lesser (row cells (size ns) l) (row cells (size ns) r)) ≡ done m (cheaper t l r)
-        cheaper-done = ap (hanging m t) (sym (joined-rows lesser)) ∙ sym (call-accepted m (cheaper t l r) cheaper-does)
+        pub cheaper-done : (n : Meaning) → n ≡ hanging m t (zipped lesser (row cells (size ns) l) (row cells (size ns) r)) → n ≡ done m (cheaper t l r)
+        cheaper-done n e = e ∙ ap (hanging m t) (sym (joined-rows lesser)) ∙ sym (call-accepted m (cheaper t l r) cheaper-does)
 
         pub cheaper-legal : Sound m → some late (zipped lesser (row cells (size ns) l) (row cells (size ns) r)) ≡ false
         cheaper-legal s = ap (some late) (sym (joined-rows lesser)) ∙ hung-legal m s (cheaper t l r) cheaper-checks
@@ -88,18 +91,18 @@ module _ (ns : Shape) (cells : List Time) (hung : List Bool) where
         sum-of : late (plus (greatest (on (m .pegs) l)) (greatest (on (m .pegs) r))) ≡ late (plus (greatest (row cells (size ns) l)) (greatest (row cells (size ns) r)))
         sum-of = λ i. late (plus (greatest (row-on ns cells hung l hl el i)) (greatest (row-on ns cells hung r hr er i)))
 
-        pub sum-late : late (plus (greatest (row cells (size ns) l)) (greatest (row cells (size ns) r))) ≡ true → does m (sum t l r) ≡ Err 16
-        sum-late e = refuses (refuse 14 (high t || (high l || high r)) ∷ refuse 15 (bare (m .pegs) l || bare (m .pegs) r) ∷ []) 16 (late (plus (greatest (on (m .pegs) l)) (greatest (on (m .pegs) r)))) (no-room m (sum t l r) ∷ []) tt (all-low t l r ht hl hr, (none-bare el er, tt)) (sum-of ∙ e)
+        pub sum-late : (b : Bool) → b ≡ late (plus (greatest (row cells (size ns) l)) (greatest (row cells (size ns) r))) → b ≡ true → does m (sum t l r) ≡ Err 16
+        sum-late b f e = refuses (refuse 14 (high t || (high l || high r)) ∷ refuse 15 (bare (m .pegs) l || bare (m .pegs) r) ∷ []) 16 (late (plus (greatest (on (m .pegs) l)) (greatest (on (m .pegs) r)))) (no-room m (sum t l r) ∷ []) tt (all-low t l r ht hl hr, (none-bare el er, tt)) (sum-of ∙ sym f ∙ e)
 
-        module _ (timely : late (plus (greatest (row cells (size ns) l)) (greatest (row cells (size ns) r))) ≡ false) where
+        module _ (b : Bool) (told : b ≡ late (plus (greatest (row cells (size ns) l)) (greatest (row cells (size ns) r)))) (timely : b ≡ false) where
           sum-checks : All (λ k. k .holds ≡ false) (call-checks m (sum t l r))
-          sum-checks = (all-low t l r ht hl hr, (none-bare el er, (sum-of ∙ timely, (refl, tt))))
+          sum-checks = (all-low t l r ht hl hr, (none-bare el er, (sum-of ∙ sym told ∙ timely, (refl, tt))))
 
           pub sum-does : does m (sum t l r) ≡ Ok tt
           sum-does = accepts (call-checks m (sum t l r)) tt sum-checks
 
-          pub sum-done : hanging m t (zipped plus (row cells (size ns) l) (row cells (size ns) r)) ≡ done m (sum t l r)
-          sum-done = ap (hanging m t) (sym (joined-rows plus)) ∙ sym (call-accepted m (sum t l r) sum-does)
+          pub sum-done : (n : Meaning) → n ≡ hanging m t (zipped plus (row cells (size ns) l) (row cells (size ns) r)) → n ≡ done m (sum t l r)
+          sum-done n e = e ∙ ap (hanging m t) (sym (joined-rows plus)) ∙ sym (call-accepted m (sum t l r) sum-does)
 
           pub sum-legal : Sound m → some late (zipped plus (row cells (size ns) l) (row cells (size ns) r)) ≡ false
           sum-legal s = ap (some late) (sym (joined-rows plus)) ∙ hung-legal m s (sum t l r) sum-checks
@@ -108,12 +111,6 @@ module _ (ns : Shape) (cells : List Time) (hung : List Bool) where
   module _ (t v : ℕ) (es : List Time) (device : v < length ns) (ht : t < 8) (timely : some late (take (getD ns v 0) es) ≡ false) where
     dial-checks : All (λ k. k .holds ≡ false) (call-checks m (dial t v es))
     dial-checks = (lt-leb (length ns) v device, (low-peg t ht, (timely, (refl, tt))))
-
-    pub dial-does : does m (dial t v es) ≡ Ok tt
-    dial-does = accepts (call-checks m (dial t v es)) tt dial-checks
-
-    pub dial-done : hanging m t (dialled ns v es) ≡ done m (dial t v es)
-    dial-done = sym (call-accepted m (dial t v es) dial-does)
 
     pub dial-legal : Sound m → some late (dialled ns v es) ≡ false
     dial-legal s = hung-legal m s (dial t v es) dial-checks
@@ -134,12 +131,6 @@ module _ (ns : Shape) (cells : List Time) (hung : List Bool) where
         setting-low : (ltb v (length ns) && leb (getD ns v 0) d) ≡ false
         setting-low = and-right (ltb v (length ns)) (leb (getD ns v 0) d) (lt-leb (getD ns v 0) d setting)
 
-        pub put-peg-high : (8 ≤ t) ⊎ (8 ≤ a) → does m (put t a v d) ≡ Err 14
-        put-peg-high h =
-            refuses (refuse 7 (leb (length ns) v) ∷ refuse 8 (ltb v (length ns) && leb (getD ns v 0) d) ∷ []) 14 (high t || high a) (refuse 15 (bare (m .pegs) a) ∷ no-room m (put t a v d) ∷ []) tt
-            (lt-leb (length ns) v device, (setting-low, tt))
-            (⊎-elim (λ e. or-left (high t) (high a) (le-leb 8 t e)) (λ e. or-right (high t) (high a) (le-leb 8 a e)) h)
-
         module _ (ht : t < 8) (ha : a < 8) where
           pub put-bare : getD hung a false ≡ false → does m (put t a v d) ≡ Err 15
           put-bare e =
@@ -156,29 +147,26 @@ module _ (ns : Shape) (cells : List Time) (hung : List Bool) where
             pub put-does : does m (put t a v d) ≡ Ok tt
             put-does = accepts (call-checks m (put t a v d)) tt put-checks
 
-            pub put-done : hanging m t (put-chart ns v d (row cells (size ns) a)) ≡ done m (put t a v d)
-            put-done = ap (hanging m t) (sym put-rows) ∙ sym (call-accepted m (put t a v d) put-does)
+            pub put-done : (n : Meaning) → n ≡ hanging m t (put-chart ns v d (row cells (size ns) a)) → n ≡ done m (put t a v d)
+            put-done n e = e ∙ ap (hanging m t) (sym put-rows) ∙ sym (call-accepted m (put t a v d) put-does)
 
             pub put-legal : Sound m → some late (put-chart ns v d (row cells (size ns) a)) ≡ false
             put-legal s = ap (some late) (sym put-rows) ∙ hung-legal m s (put t a v d) put-checks
 
   -- A read
   module _ (p : ℕ) (s : Scene) where
-    pub reads-scene-off : (n : ℕ) → answer (scene-checks ns s) (rank ns s) ≡ Err n → reads m p s ≡ Err n
-    reads-scene-off n e = refused-first (scene-checks ns s) (refuse 14 (high p) ∷ refuse 15 (bare (m .pegs) p) ∷ []) (rank ns s) (at ns (on (m .pegs) p) s) n e
+    pub reads-scene-off : (n : ℕ) → Err n ≡ answer (scene-checks ns s) (rank ns s) → Err n ≡ reads m p s
+    reads-scene-off n e = sym (refused-first (scene-checks ns s) (refuse 14 (high p) ∷ refuse 15 (bare (m .pegs) p) ∷ []) (rank ns s) (at ns (on (m .pegs) p) s) n (sym e))
 
-    module _ (k : ℕ) (scene : answer (scene-checks ns s) (rank ns s) ≡ Ok k) where
+    module _ (k : ℕ) (scene : Ok k ≡ answer (scene-checks ns s) (rank ns s)) where
       pub reads-peg : reads m p s ≡ answer (refuse 14 (high p) ∷ refuse 15 (bare (m .pegs) p) ∷ []) (at ns (on (m .pegs) p) s)
-      reads-peg = accepted-first (scene-checks ns s) (refuse 14 (high p) ∷ refuse 15 (bare (m .pegs) p) ∷ []) (rank ns s) k (at ns (on (m .pegs) p) s) scene
-
-      pub reads-high : 8 ≤ p → reads m p s ≡ Err 14
-      reads-high h = reads-peg ∙ refuses [] 14 (high p) (refuse 15 (bare (m .pegs) p) ∷ []) _ tt (le-leb 8 p h)
+      reads-peg = accepted-first (scene-checks ns s) (refuse 14 (high p) ∷ refuse 15 (bare (m .pegs) p) ∷ []) (rank ns s) k (at ns (on (m .pegs) p) s) (sym scene)
 
       module _ (hp : p < 8) where
-        pub reads-bare : getD hung p false ≡ false → reads m p s ≡ Err 15
-        reads-bare e = reads-peg ∙ refuses (refuse 14 (high p) ∷ []) 15 (bare (m .pegs) p) [] _ (low-peg p hp, tt) (bare-at ns cells hung p hp false e)
-
-        pub reads-row : getD hung p false ≡ true → reads m p s ≡ Ok (getD (row cells (size ns) p) (rank ns s) None)
-        reads-row e =
+        row-read : getD hung p false ≡ true → reads m p s ≡ Ok (getD (row cells (size ns) p) (rank ns s) None)
+        row-read e =
             reads-peg ∙ accepts (refuse 14 (high p) ∷ refuse 15 (bare (m .pegs) p) ∷ []) _ (low-peg p hp, (bare-at ns cells hung p hp true e, tt))
             ∙ ap (λ c. Ok (at ns c s)) (row-on ns cells hung p hp e)
+
+        pub reads-row : getD hung p false ≡ true → (c : Chart) → c ≡ row cells (size ns) p → Ok (getD c k None) ≡ reads m p s
+        reads-row e c f = (λ i. Ok (getD (f i) (placed ns s k scene .0 i) None)) ∙ sym (row-read e)

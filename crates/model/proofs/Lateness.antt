@@ -1,13 +1,11 @@
 -- The greatest times of charts, and what is late. Assumes nothing.
-use mathlib.Core.Path.{_≡_, refl, sym, ap, ap₂, subst, _∙_}
+use mathlib.Core.Path.{_≡_, refl, ap, subst, _∙_}
 use mathlib.Core.Bool.{Bool, true, false, _||_}
 use mathlib.Core.List.{List, [], _∷_, map}
-use Prim.Native.Nat.{ℕ, zero, suc, _+_, _≤_, _<_, min, max}
+use Prim.Native.Nat.{ℕ, zero, suc, _<_}
 use native.Mathlib.Omega.{arith}
-use lib.Dec.{ltb}
 use lib.ListN.{length, getD, set, take}
 use Rattle.std.specs.shelf.Lists.{All}
-use Rattle.std.specs.declared.option.Option.{Option}
 use Rattle.std.specs.declared.option.Option.the-variants.{Some, None}
 use Rattle.std.proofs.shelf.Lists.{getD-take}
 use Rattle.std.proofs.shelf.Elements.{all-weaker}
@@ -15,7 +13,7 @@ use Rattle.std.proofs.shelf.Tests.{ltb-false, le-ltb}
 use Rattle.std.proofs.shelf.Ways.{tells}
 use Rattle.model.specs.Limits.{greatest-time}
 use Rattle.model.specs.Lists.{some}
-use Rattle.model.specs.Scenes.{Shape, Scene, Scene-of, scenes}
+use Rattle.model.specs.Scenes.{Shape, Scene-of, scenes}
 use Rattle.model.specs.Charts.{Time, Chart, at, lesser, greater, plus, zipped, dialled, put-chart, greatest, late}
 use Rattle.model.specs.ChartLaws.{Latest, No-later}
 use Rattle.model.proofs.Ranks.{all-scenes, setting-less}

@@ -1,16 +1,16 @@
 -- How many scenes a shape has, device by device. Assumes nothing.
-use mathlib.Core.Path.{_≡_, refl, sym, ap, subst, _∙_}
-use mathlib.Core.Bool.{Bool, true, false, _||_}
-use mathlib.Core.List.{List, [], _∷_, _++_}
+use mathlib.Core.Path.{_≡_, sym, ap, _∙_}
+use mathlib.Core.Bool.{Bool, false}
+use mathlib.Core.List.{[], _∷_, _++_}
 use Prim.Native.Nat.{ℕ, zero, suc, _+_, _*_, _^_, _≤_, _<_}
-use native.Mathlib.Nat.{mul-one, one-mul, mul-assoc, mul-le-mul, pow-suc, pow-le-pow-right, add-mul}
+use native.Mathlib.Nat.{mul-one, one-mul, mul-assoc, pow-suc, pow-le-pow-right, add-mul}
 use native.Mathlib.Numerals.{add-one}
 use native.Mathlib.Omega.{arith}
 use lib.Dec.{ltb, lit<}
 use lib.ListN.{length, getD, take, drop}
 use Rattle.std.proofs.shelf.Bits.{mul-le}
 use Rattle.std.proofs.shelf.Lists.{take-more, length-take, length-drop, length-take-le}
-use Rattle.std.proofs.shelf.Tests.{or-parts, or-from, ltb-false}
+use Rattle.std.proofs.shelf.Tests.{or-parts, ltb-false}
 use Rattle.model.specs.Limits.{outside, most-devices, least-settings, most-settings}
 use Rattle.model.specs.Lists.{some}
 use Rattle.model.specs.Scenes.{Shape, size, shape-off}

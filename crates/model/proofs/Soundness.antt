@@ -1,26 +1,23 @@
 -- A sound shelf stays sound. Assumes nothing.
-use mathlib.Core.Path.{_≡_, refl, sym, ap, subst, _∙_}
-use mathlib.Core.Bool.{Bool, true, false, cond, not, _||_, _&&_}
-use mathlib.Core.List.{List, [], _∷_, _++_, map}
-use Prim.Native.Nat.{ℕ, zero, suc, _+_, _≤_, _<_}
+use mathlib.Core.Path.{_≡_, sym, _∙_}
+use mathlib.Core.Bool.{Bool, true, false, not}
+use mathlib.Core.List.{[], _∷_}
+use Prim.Native.Nat.{ℕ, zero, suc}
 use native.Mathlib.Omega.{arith}
 use borrow.Author.Needs.{needs}
-use lib.Dec.{ltb, leb}
 use lib.ListN.{length, getD, set, take}
 use Rattle.std.specs.shelf.Lists.{All}
 use Rattle.std.specs.Options.{isSome, Cases}
 use Rattle.std.specs.declared.option.Option.{Option}
 use Rattle.std.specs.declared.option.Option.the-variants.{Some, None}
-use Rattle.std.specs.declared.result.Result.{Result}
 use Rattle.std.specs.declared.result.Result.the-variants.{Ok, Err}
 use Rattle.std.proofs.shelf.Lists.{length-set}
-use Rattle.std.proofs.shelf.Tests.{or-parts, or-from, leb-false}
+use Rattle.std.proofs.shelf.Tests.{or-parts, leb-false}
 use Rattle.model.specs.Lists.{some}
-use Rattle.model.specs.Scenes.{Shape, Scene, size}
+use Rattle.model.specs.Scenes.{size}
 use Rattle.model.specs.Charts.{Time, Chart, lesser, greater, plus, zipped, dialled, put-chart, greatest, late}
-use Rattle.model.specs.Refusals.{Check, refuse, answer, left-by}
-use Rattle.model.specs.Shelves.{Meaning, Pegs, Call, dial, cheaper, sum, put, Sound, chart-of, on, bare, high, hung, target, after, with-pegs, call-checks, does, done, wipes, wiped}
-use Rattle.model.specs.ChartLaws.{Stays-sound, No-later}
+use Rattle.model.specs.Shelves.{Meaning, Pegs, Call, dial, cheaper, sum, put, Sound, chart-of, on, bare, hung, target, after, with-pegs, call-checks, does, done, wipes, wiped}
+use Rattle.model.specs.ChartLaws.{Stays-sound}
 use Rattle.model.proofs.Refusing.{accepted, left-ok, left-err, left-either}
 use Rattle.model.proofs.Charting.{zipped-length, put-length, lengths}
 use Rattle.model.proofs.Lateness.{late-tells, legal-under, latest}

@@ -1,13 +1,12 @@
 -- Charts by strides: a scene's place is a block, a setting of one device, and a rest. Assumes nothing.
-use mathlib.Core.Path.{_≡_, refl, sym, ap, subst, _∙_}
+use mathlib.Core.Path.{_≡_, sym, ap, subst, _∙_}
 use mathlib.Core.List.{List, [], _∷_}
-use Prim.Native.Nat.{ℕ, zero, suc, _+_, _*_, _≤_, _<_}
+use Prim.Native.Nat.{ℕ, zero, suc, _+_, _*_, _<_}
 use native.Mathlib.Nat.{mul-assoc, add-mul}
 use native.Mathlib.Numerals.{add-one}
 use native.Mathlib.Omega.{arith}
 use lib.ListN.{length, getD, set, take, drop}
-use Rattle.std.specs.declared.option.Option.{Option}
-use Rattle.std.specs.declared.option.Option.the-variants.{Some, None}
+use Rattle.std.specs.declared.option.Option.the-variants.{None}
 use Rattle.model.specs.Scenes.{Shape, Scene, Scene-of, size, scenes, rank}
 use Rattle.model.specs.Charts.{Time, Chart, at, dialled, put-chart}
 use Rattle.model.proofs.Ranks.{rank-less, rank-set, setting-less, same-charts, tabulated, tabulated-length}

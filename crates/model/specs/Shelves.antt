@@ -1,7 +1,7 @@
 -- Shelves of eight pegs: what one means, and what each call answers and leaves. Assumes nothing.
 use Prim.Native.Nat.{ℕ, _*_}
 use mathlib.Core.Path.{_≡_}
-use mathlib.Core.Bool.{Bool, true, false, cond, not, _||_, _&&_}
+use mathlib.Core.Bool.{Bool, false, not, _||_, _&&_}
 use mathlib.Core.List.{List, [], _∷_, _++_}
 use lib.Dec.{ltb, leb, eqb}
 use lib.ListN.{length, getD, set, take, replicate}
@@ -11,7 +11,7 @@ use Rattle.std.specs.declared.option.Option.the-variants.{Some, None}
 use Rattle.std.specs.declared.result.Result.{Result}
 use Rattle.model.specs.Limits.{peg-count}
 use Rattle.model.specs.Lists.{some, some-two}
-use Rattle.model.specs.Scenes.{Shape, Scene, size, scenes, shape-off}
+use Rattle.model.specs.Scenes.{Shape, Scene, size, shape-off}
 use Rattle.model.specs.Charts.{Time, Chart, at, lesser, plus, zipped, dialled, put-chart, greatest, late, same-chart}
 use Rattle.model.specs.Parts.{parts-of-all}
 use Rattle.model.specs.Refusals.{Check, refuse, answer, left-by}

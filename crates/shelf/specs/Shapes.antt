@@ -1,5 +1,4 @@
 -- The shape that a value holds. Assumes nothing.
-use Prim.Native.Nat.{ℕ}
 use lib.ListN.{take}
 use Rattle.model.specs.Scenes as scenes
 use Rattle.shelf.specs.declared.shape.Shape.{Shape}

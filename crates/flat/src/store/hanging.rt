@@ -2,7 +2,6 @@ ghost use mathlib.Core.Path.{_≡_};
 ghost use mathlib.Core.Bool.{true, false};
 ghost use Prim.Native.Nat.{_+_, _<_};
 ghost use lib.ListN.{length, getD, take, drop};
-ghost use Rattle.std.specs.Of.Vec.{vec-items};
 ghost use Rattle.model.specs.Charts.{late, plus, zipped, dialled, put-chart, greatest as greatest-of};
 ghost use Rattle.model.specs.Lists.{some};
 ghost use Rattle.model.specs.Scenes.{size};

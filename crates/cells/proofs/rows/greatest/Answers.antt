@@ -1,4 +1,3 @@
-use borrow.Author.Needs.{needs}
 use Rattle.cells.proofs.Reading.{greatest-more, greatest-all}
 use Rattle.cells.proofs.rows.greatest.Needs as need
 

@@ -1,9 +1,7 @@
-use mathlib.Core.Path.{_≡_, sym, ap, ap₂, subst, _∙_}
-use mathlib.Core.Bool.{false}
-use Prim.Native.Nat.{ℕ, _+_, _<_}
-use lib.ListN.{length, getD}
+use mathlib.Core.Path.{ap, ap₂, _∙_}
+use Prim.Native.Nat.{_+_, _<_}
+use lib.ListN.{length}
 use borrow.Author.Needs.{needs}
-use Rattle.std.specs.declared.option.Option.the-variants.{None}
 use Rattle.model.specs.Charts.{late}
 use Rattle.cells.specs.Joins.{joins}
 use Rattle.cells.proofs.Writing.{written-none, written-more, cell-kept}

@@ -1,5 +1,4 @@
-use mathlib.Core.Path.{_≡_, sym}
-use borrow.Author.Needs.{needs}
+use mathlib.Core.Path.{sym}
 use Rattle.std.specs.declared.option.Option.the-variants.{None}
 use Rattle.model.specs.Charts.{late}
 use Rattle.model.proofs.Testing.{some-here, some-on, some-end}

@@ -1,4 +1,3 @@
-use borrow.Author.Needs.{needs}
 use Rattle.cells.proofs.Writing.{runs-none, runs-more}
 use Rattle.cells.proofs.runs.dial_block.Needs as need
 

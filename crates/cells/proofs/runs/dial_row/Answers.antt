@@ -1,6 +1,5 @@
-use Prim.Native.Nat.{_+_, _*_}
+use Prim.Native.Nat.{_*_}
 use native.Mathlib.Omega.{arith}
-use borrow.Author.Needs.{needs}
 use Rattle.cells.proofs.Writing.{next-row, blocks-none, blocks-more}
 use Rattle.cells.proofs.runs.dial_row.Needs as need
 

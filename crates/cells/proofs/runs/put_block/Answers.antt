@@ -1,6 +1,4 @@
-use Prim.Native.Nat.{_+_, _*_}
 use native.Mathlib.Omega.{arith}
-use borrow.Author.Needs.{needs}
 use Rattle.cells.proofs.Writing.{next-row, runs-none, runs-more}
 use Rattle.cells.proofs.Copying.{source-apart, source-kept, written-as}
 use Rattle.cells.proofs.runs.put_block.Needs as need

@@ -1,12 +1,10 @@
-use mathlib.Core.Path.{_≡_, refl, sym, ap, _∙_}
-use mathlib.Core.Bool.{true, false}
-use Prim.Native.Nat.{ℕ, _+_, _*_, _<_, _≤_}
+use mathlib.Core.Path.{_≡_, sym, ap, _∙_}
+use Prim.Native.Nat.{_+_, _*_, _<_}
 use lib.Dec.{leb}
 use lib.ListN.{length, getD, take, drop}
 use native.Mathlib.Omega.{arith}
-use borrow.Author.Needs.{needs}
 use Rattle.std.proofs.shelf.Lists.{drop-all}
-use Rattle.std.proofs.shelf.Tests.{not-from-true, not-from-false, eq-eqb, ne-eqb, le-leb, lt-leb}
+use Rattle.std.proofs.shelf.Tests.{not-from-true, eq-eqb, le-leb, lt-leb}
 use Rattle.model.specs.Scenes.{size, rank}
 use Rattle.model.proofs.Ranks.{rank-more}
 use Rattle.model.proofs.Sizes.{size-more, size-take-most, digit-more}

@@ -1,7 +1,6 @@
 use mathlib.Core.Path.{_≡_, sym}
-use mathlib.Core.Bool.{true, false}
+use mathlib.Core.Bool.{true}
 use lib.ListN.{getD}
-use borrow.Author.Needs.{needs}
 use Rattle.std.proofs.shelf.Tests.{or-left, or-right, or-from, lt-ltb, le-ltb}
 use Rattle.model.proofs.Sizes.{count-off}
 use Rattle.model.proofs.Testing.{some-here, some-on, some-end}

@@ -1,22 +1,17 @@
-use mathlib.Core.Path.{_≡_, refl, sym, ap, ap₂, subst, _∙_}
+use mathlib.Core.Path.{_≡_, sym, ap, subst, _∙_}
 use mathlib.Core.List.{List}
-use mathlib.Core.Bool.{true, false}
-use Prim.Native.Nat.{ℕ, _+_, _*_, _<_, _≤_}
-use lib.ListN.{length, getD, set}
+use mathlib.Core.Bool.{true}
+use Prim.Native.Nat.{_*_, _≤_}
+use lib.ListN.{length, set}
 use native.Mathlib.Omega.{arith}
 use borrow.Author.Needs.{needs}
 use Rattle.std.specs.Of.Vec.{vec-items, vec-len}
-use Rattle.std.specs.declared.option.Option.the-variants.{None}
 use Rattle.std.proofs.shelf.Lists.{refilled-is}
 use Rattle.model.specs.Lists.{some}
-use Rattle.model.specs.Scenes.{size}
 use Rattle.model.specs.Charts.{Time, late, zipped}
-use Rattle.model.proofs.Charting.{zipped-at, zipped-length}
-use Rattle.model.proofs.Testing.{none-at}
 use Rattle.shelf.specs.Shapes.{shape-of}
 use Rattle.cells.specs.Joins.{joins}
 use Rattle.flat.specs.Rows.{row, flat, Timely}
-use Rattle.cells.specs.Writes.{Written}
 use Rattle.flat.proofs.Rowing.{within-row, apart-rows, joined-legal, joined-left}
 use Rattle.flat.proofs.Hanging.{flat-hung, timely-hung}
 use Rattle.flat.proofs.store.FlatShelf.hang_joined.Needs as need

@@ -1,13 +1,12 @@
 use mathlib.Core.Path.{_≡_, sym, ap, subst, _∙_}
 use mathlib.Core.List.{List}
 use mathlib.Core.Bool.{true}
-use Prim.Native.Nat.{ℕ, _+_, _*_, _<_, _≤_}
+use Prim.Native.Nat.{ℕ, _*_, _≤_}
 use lib.ListN.{length, set, take}
 use native.Mathlib.Omega.{arith}
 use borrow.Author.Needs.{needs}
 use Rattle.std.specs.Of.Vec.{vec-items, vec-len}
 use Rattle.std.proofs.shelf.Lists.{refilled-is}
-use Rattle.model.specs.Scenes.{size}
 use Rattle.model.specs.Charts.{Time}
 use Rattle.model.proofs.Sizes.{size-some, legal-take}
 use Rattle.shelf.specs.Shapes.{shape-of}

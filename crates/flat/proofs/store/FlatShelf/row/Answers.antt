@@ -1,5 +1,5 @@
 use native.Mathlib.Omega.{arith}
-use Prim.Native.Nat.{_+_, _*_, _≤_}
+use Prim.Native.Nat.{_*_, _≤_}
 use lib.ListN.{length}
 use Rattle.cells.proofs.Writing.{rows-up}
 use Rattle.flat.proofs.Rowing.{within-row}

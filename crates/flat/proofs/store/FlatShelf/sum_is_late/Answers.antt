@@ -1,4 +1,4 @@
-use mathlib.Core.Path.{_≡_, sym, ap, _∙_}
+use mathlib.Core.Path.{sym, ap, _∙_}
 use Rattle.model.specs.Charts.{greatest, late}
 use Rattle.model.proofs.Lateness.{late-tells}
 use Rattle.flat.specs.Means.{row-of}

@@ -1,9 +1,6 @@
-use mathlib.Core.Path.{_≡_, sym, ap, subst, _∙_}
-use mathlib.Core.List.{List}
+use mathlib.Core.Path.{_≡_, ap, _∙_}
 use mathlib.Core.Bool.{false}
-use Prim.Native.Nat.{ℕ, _-_}
-use lib.ListN.{take}
-use native.Mathlib.Omega.{arith}
+use Prim.Native.Nat.{_-_}
 use Rattle.model.specs.Scenes.{shape-off}
 use Rattle.model.proofs.Sizes.{legal-take}
 use Rattle.shelf.proofs.shape.Shape.blocks.Needs as need

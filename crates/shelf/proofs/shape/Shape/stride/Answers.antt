@@ -1,8 +1,7 @@
-use mathlib.Core.Path.{_≡_, sym, ap, subst, _∙_}
-use mathlib.Core.List.{List}
+use mathlib.Core.Path.{_≡_, ap, _∙_}
 use mathlib.Core.Bool.{false}
-use Prim.Native.Nat.{ℕ, _-_, _+_}
-use lib.ListN.{length, take, drop}
+use Prim.Native.Nat.{_+_}
+use lib.ListN.{drop}
 use Rattle.std.proofs.shelf.Lists.{take-rest}
 use Rattle.model.specs.Scenes.{shape-off, size}
 use Rattle.model.proofs.Sizes.{legal-drop}

@@ -1,4 +1,4 @@
-use mathlib.Core.Path.{_≡_, sym, _∙_}
+use mathlib.Core.Path.{_≡_, sym}
 use mathlib.Core.Logic.{_⊎_, inl, inr}
 use mathlib.Core.Bool.{false}
 use lib.ListN.{getD}
@@ -43,5 +43,5 @@ returns c =
     let cells = vec-items (s .cells) in
     record {
       answer = sym (cheaper-does ns cells (s .hung) (c .args .left) (c .args .right) (c .if-l-ge-PEGS .left) (c .if-r-ge-PEGS .left) (c .args .target) (c .if-t-ge-PEGS .left) (c .if-not-self-l .left) (c .if-not-self-r .left));
-      left = c .hang-joined .ensures .hung ∙ cheaper-done ns cells (s .hung) (c .args .left) (c .args .right) (c .if-l-ge-PEGS .left) (c .if-r-ge-PEGS .left) (c .args .target) (c .if-t-ge-PEGS .left) (c .if-not-self-l .left) (c .if-not-self-r .left);
+      left = cheaper-done ns cells (s .hung) (c .args .left) (c .args .right) (c .if-l-ge-PEGS .left) (c .if-r-ge-PEGS .left) (c .args .target) (c .if-t-ge-PEGS .left) (c .if-not-self-l .left) (c .if-not-self-r .left) _ (c .hang-joined .ensures .hung);
     }

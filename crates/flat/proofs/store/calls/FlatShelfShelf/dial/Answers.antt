@@ -1,16 +1,16 @@
 use mathlib.Core.Path.{_≡_, sym, ap, _∙_}
-use mathlib.Core.Bool.{true, false}
-use Prim.Native.Nat.{_<_, _≤_}
+use mathlib.Core.Bool.{false}
+use Prim.Native.Nat.{_<_}
 use lib.ListN.{length, getD, take}
 use native.Mathlib.Omega.{arith}
 use Rattle.std.specs.Of.Vec.{vec-items}
 use Rattle.model.specs.Lists.{some}
 use Rattle.model.specs.Charts.{late}
-use Rattle.model.specs.Shelves.{Sound, dial}
+use Rattle.model.specs.Shelves.{Sound}
 use Rattle.shelf.specs.Shapes.{shape-of}
 use Rattle.flat.specs.Means.{means}
 use Rattle.flat.proofs.Hanging.{flat-sound}
-use Rattle.flat.proofs.Calling.{dial-does, dial-done, dial-legal}
+use Rattle.flat.proofs.Calling.{dial-legal}
 use Rattle.flat.proofs.store.calls.FlatShelfShelf.dial.Needs as need
 
 pub hang-dial-requires : need.hang-dial-requires

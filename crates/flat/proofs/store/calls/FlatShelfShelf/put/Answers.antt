@@ -1,6 +1,5 @@
-use mathlib.Core.Path.{_≡_, sym, _∙_}
-use mathlib.Core.Bool.{true, false}
-use Prim.Native.Nat.{_<_, _≤_}
+use mathlib.Core.Path.{sym}
+use Prim.Native.Nat.{_<_}
 use lib.ListN.{length, getD}
 use native.Mathlib.Omega.{arith}
 use Rattle.std.specs.Of.Vec.{vec-items}
@@ -58,5 +57,5 @@ returns c =
     let setting : c .args .setting < getD ns (c .args .device) 0 = omega (arith, c .if-d-count .left, c .count .ensures .value) in
     record {
       answer = sym (put-does ns cells (s .hung) (c .args .target) (c .args .source) (c .args .device) (c .args .setting) device setting (c .if-t-ge-PEGS .left) (c .if-a-ge-PEGS .left) (c .if-not-self-a .left));
-      left = c .hang-put .ensures .hung ∙ put-done ns cells (s .hung) (c .args .target) (c .args .source) (c .args .device) (c .args .setting) device setting (c .if-t-ge-PEGS .left) (c .if-a-ge-PEGS .left) (c .if-not-self-a .left);
+      left = put-done ns cells (s .hung) (c .args .target) (c .args .source) (c .args .device) (c .args .setting) device setting (c .if-t-ge-PEGS .left) (c .if-a-ge-PEGS .left) (c .if-not-self-a .left) _ (c .hang-put .ensures .hung);
     }

@@ -1,13 +1,11 @@
-use mathlib.Core.Path.{_≡_, sym, ap, ap₂, _∙_}
+use mathlib.Core.Path.{_≡_, sym, ap, _∙_}
 use mathlib.Core.Logic.{_⊎_, inl, inr}
-use mathlib.Core.Bool.{true, false}
+use mathlib.Core.Bool.{false}
 use Prim.Native.Nat.{_*_, _≤_}
 use lib.ListN.{length, getD}
 use native.Mathlib.Omega.{arith}
 use Rattle.std.specs.Of.Vec.{vec-items}
-use Rattle.std.specs.declared.result.Result.the-variants.{Ok}
 use Rattle.model.specs.Scenes.{size}
-use Rattle.model.specs.Charts.{same-chart}
 use Rattle.shelf.specs.Shapes.{shape-of}
 use Rattle.flat.proofs.Rowing.{length-row}
 use Rattle.flat.proofs.Calling.{compares-bare, compares-rows}
@@ -39,5 +37,5 @@ pub returns : need.returns
 returns c =
     let s = c .args .self .now in
     record { answer =
-      ap Ok (c .same-rows .ensures .value ∙ ap₂ same-chart (c .row .ensures .value) (c .row-2 .ensures .value))
-      ∙ sym (compares-rows (shape-of (s .shape)) (vec-items (s .cells)) (s .hung) (c .args .left) (c .args .right) (c .if-l-ge-PEGS .left) (c .if-r-ge-PEGS .left) (c .if-not-self-l .left) (c .if-not-self-r .left)) }
+      compares-rows (shape-of (s .shape)) (vec-items (s .cells)) (s .hung) (c .args .left) (c .args .right) (c .if-l-ge-PEGS .left) (c .if-r-ge-PEGS .left) (c .if-not-self-l .left) (c .if-not-self-r .left)
+      (c .row .result .now) (c .row-2 .result .now) (c .same-rows .result) (c .same-rows .ensures .value) (c .row .ensures .value) (c .row-2 .ensures .value) }

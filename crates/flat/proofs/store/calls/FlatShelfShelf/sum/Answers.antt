@@ -1,6 +1,6 @@
-use mathlib.Core.Path.{_≡_, sym, _∙_}
+use mathlib.Core.Path.{_≡_, sym}
 use mathlib.Core.Logic.{_⊎_, inl, inr}
-use mathlib.Core.Bool.{true, false}
+use mathlib.Core.Bool.{false}
 use lib.ListN.{getD}
 use native.Mathlib.Omega.{arith}
 use Rattle.std.specs.Of.Vec.{vec-items}
@@ -38,7 +38,7 @@ sum-is-late-requires c κs =
 pub returns-then-sum-is-late : need.returns-then-sum-is-late
 returns-then-sum-is-late c =
     let s = c .args .self .now in
-    let e = sum-late (shape-of (s .shape)) (vec-items (s .cells)) (s .hung) (c .args .left) (c .args .right) (c .if-l-ge-PEGS .left) (c .if-r-ge-PEGS .left) (c .args .target) (c .if-t-ge-PEGS .left) (c .if-not-self-l .left) (c .if-not-self-r .left) (sym (c .sum-is-late .ensures .value) ∙ c .if-sum-is-late .taken) in
+    let e = sum-late (shape-of (s .shape)) (vec-items (s .cells)) (s .hung) (c .args .left) (c .args .right) (c .if-l-ge-PEGS .left) (c .if-r-ge-PEGS .left) (c .args .target) (c .if-t-ge-PEGS .left) (c .if-not-self-l .left) (c .if-not-self-r .left) (c .sum-is-late .result) (c .sum-is-late .ensures .value) (c .if-sum-is-late .taken) in
     record { answer = sym e; left = sym (call-refused (means s) (sum (c .args .target) (c .args .left) (c .args .right)) 16 e) }
 
 pub hang-joined-requires : need.hang-joined-requires
@@ -49,7 +49,7 @@ hang-joined-requires c κs =
     let sound : Sound (means s) = flat-sound ns cells (s .hung) (s .shape .legal) (omega (arith, s .room, s .cells .ok .0)) (s .timely) in
     record {
       low = (c .if-t-ge-PEGS .left, (c .if-l-ge-PEGS .left, c .if-r-ge-PEGS .left));
-      legal = sum-legal ns cells (s .hung) (c .args .left) (c .args .right) (c .if-l-ge-PEGS .left) (c .if-r-ge-PEGS .left) (c .args .target) (c .if-t-ge-PEGS .left) (c .if-not-self-l .left) (c .if-not-self-r .left) (sym (c .sum-is-late .ensures .value) ∙ c .if-sum-is-late .left) sound;
+      legal = sum-legal ns cells (s .hung) (c .args .left) (c .args .right) (c .if-l-ge-PEGS .left) (c .if-r-ge-PEGS .left) (c .args .target) (c .if-t-ge-PEGS .left) (c .if-not-self-l .left) (c .if-not-self-r .left) (c .sum-is-late .result) (c .sum-is-late .ensures .value) (c .if-sum-is-late .left) sound;
     }
 
 pub returns : need.returns
@@ -57,8 +57,7 @@ returns c =
     let s = c .args .self .now in
     let ns = shape-of (s .shape) in
     let cells = vec-items (s .cells) in
-    let timely = sym (c .sum-is-late .ensures .value) ∙ c .if-sum-is-late .left in
     record {
-      answer = sym (sum-does ns cells (s .hung) (c .args .left) (c .args .right) (c .if-l-ge-PEGS .left) (c .if-r-ge-PEGS .left) (c .args .target) (c .if-t-ge-PEGS .left) (c .if-not-self-l .left) (c .if-not-self-r .left) timely);
-      left = c .hang-joined .ensures .hung ∙ sum-done ns cells (s .hung) (c .args .left) (c .args .right) (c .if-l-ge-PEGS .left) (c .if-r-ge-PEGS .left) (c .args .target) (c .if-t-ge-PEGS .left) (c .if-not-self-l .left) (c .if-not-self-r .left) timely;
+      answer = sym (sum-does ns cells (s .hung) (c .args .left) (c .args .right) (c .if-l-ge-PEGS .left) (c .if-r-ge-PEGS .left) (c .args .target) (c .if-t-ge-PEGS .left) (c .if-not-self-l .left) (c .if-not-self-r .left) (c .sum-is-late .result) (c .sum-is-late .ensures .value) (c .if-sum-is-late .left));
+      left = sum-done ns cells (s .hung) (c .args .left) (c .args .right) (c .if-l-ge-PEGS .left) (c .if-r-ge-PEGS .left) (c .args .target) (c .if-t-ge-PEGS .left) (c .if-not-self-l .left) (c .if-not-self-r .left) (c .sum-is-late .result) (c .sum-is-late .ensures .value) (c .if-sum-is-late .left) _ (c .hang-joined .ensures .hung);
     }
