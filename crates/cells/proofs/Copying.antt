@@ -38,8 +38,8 @@ module _ (m n w to from d b : ℕ) (low : d < n) (h : b < m) (apart : Apart (m *
       ⊎-elim
       (λ e. inl (d, low, omega arith))
       (⊎-elim
-        (λ before. inr (inl (omega (arith, next-row b m (n * w) h, next-row d n w low))))
-        (λ after. inr (inr (omega (arith, next-row b m (n * w) h)))))
+      (λ before. inr (inl (omega (arith, next-row b m (n * w) h, next-row d n w low))))
+      (λ after. inr (inr (omega (arith, next-row b m (n * w) h)))))
       apart
 
   -- what is copied to a block is as it was
@@ -47,12 +47,12 @@ module _ (m n w to from d b : ℕ) (low : d < n) (h : b < m) (apart : Apart (m *
   block-kept f old now blocks r l =
       let spot : from + (b * (n * w) + d * w) + r ≡ from + (b * (n * w) + (d * w + r)) = omega arith in
       let side : Outside (b * (n * w)) to (from + (b * (n * w) + (d * w + r))) =
-        ⊎-elim
-        (λ e. inr (omega arith))
-        (⊎-elim
-          (λ before. inl (omega (arith, next-row b m (n * w) h, next-row d n w low)))
-          (λ after. inr (omega (arith, next-row b m (n * w) h))))
-        apart in
+      ⊎-elim
+      (λ e. inr (omega arith))
+      (⊎-elim
+      (λ before. inl (omega (arith, next-row b m (n * w) h, next-row d n w low)))
+      (λ after. inr (omega (arith, next-row b m (n * w) h))))
+      apart in
       ap (λ k. getD now k None) spot ∙ blocks .outside _ side
 
 -- what is written where each source entry is known

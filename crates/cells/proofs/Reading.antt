@@ -3,9 +3,12 @@ use mathlib.Core.Path.{_≡_, refl, sym, ap, _∙_}
 use mathlib.Core.Bool.{true, false, _&&_}
 use Prim.Native.Nat.{ℕ, _+_, _<_, _≤_}
 use lib.ListN.{length, getD, drop}
+use mathlib.Core.Logic.{⊎-elim}
+use Rattle.std.proofs.shelf.Tests.{cases-bool}
 use Rattle.std.proofs.shelf.Lists.{drop-more, drop-all}
 use Rattle.std.specs.declared.option.Option.the-variants.{Some, None}
 use Rattle.model.specs.Charts.{Time, Chart, greater, greatest, same-time, same-chart}
+use Rattle.model.proofs.Charting.{same-is-equal}
 use Rattle.model.proofs.Lateness.{greater-assoc}
 
 greater-none : (a : Time) → greater a None ≡ a
@@ -20,6 +23,10 @@ greatest-more row i most t h e inv =
 
 pub greatest-all : (row : Chart) (i : ℕ) (most : Time) → length row ≤ i → greater most (greatest (drop i row)) ≡ greatest row → most ≡ greatest row
 greatest-all row i most h inv = sym (greater-none most) ∙ ap (λ c. greater most (greatest c)) (sym (drop-all i row h)) ∙ inv
+
+-- charts of unlike lengths are not the same
+pub same-lengths : (a b : Chart) → (length a ≡ length b → ⊥) → same-chart a b ≡ false
+same-lengths a b ne = ⊎-elim (λ e. absurd (ne (ap length (same-is-equal a b .0 e)))) (λ e. e) (cases-bool (same-chart a b))
 
 -- what is left is the same exactly where all is
 module _ (a b : Chart) (i : ℕ) (left : same-chart (drop i a) (drop i b) ≡ same-chart a b) where

@@ -36,12 +36,12 @@ pub written-more : (i base : ℕ) (f : ℕ → Time) (old now : List Time) (v : 
 written-more i base f old now v l w e =
     record {
       inside = below-more _ _
-        (λ k lt. let ne : base + k ≢ base + i = omega arith in getD-set-other now (base + i) (base + k) v None ne ∙ w .inside k lt)
-        (getD-set-same now (base + i) v None l ∙ e);
+          (λ k lt. let ne : base + k ≢ base + i = omega arith in getD-set-other now (base + i) (base + k) v None ne ∙ w .inside k lt)
+          (getD-set-same now (base + i) v None l ∙ e);
       outside = λ k side.
-        let ne : k ≢ base + i = ⊎-elim (λ lt. omega arith) (λ ge. omega arith) side in
-        let s : Outside i base k = ⊎-elim inl (λ ge. inr (omega arith)) side in
-        getD-set-other now (base + i) k v None ne ∙ w .outside k s;
+          let ne : k ≢ base + i = ⊎-elim (λ lt. omega arith) (λ ge. omega arith) side in
+          let s : Outside i base k = ⊎-elim inl (λ ge. inr (omega arith)) side in
+          getD-set-other now (base + i) k v None ne ∙ w .outside k s;
     }
 
 -- a cell to be read in a turn is as it was
@@ -65,9 +65,9 @@ module _ (n w base : ℕ) (f : ℕ → ℕ → Time) (old now new : List Time) (
   runs-more = record {
     inside = λ d r h l. run-inside d (⊎-elim (λ e. inr e) (λ ne. inl (omega arith)) (cases-eq d n)) r l;
     outside = λ k side.
-      let a : Outside w (base + n * w) k = ⊎-elim (λ lt. inl (omega arith)) (λ ge. inr (omega (arith, one-row-more n w))) side in
-      let b : Outside (n * w) base k = ⊎-elim (λ lt. inl lt) (λ ge. inr (omega (arith, one-row-more n w))) side in
-      here .outside k a ∙ before .outside k b;
+        let a : Outside w (base + n * w) k = ⊎-elim (λ lt. inl (omega arith)) (λ ge. inr (omega (arith, one-row-more n w))) side in
+        let b : Outside (n * w) base k = ⊎-elim (λ lt. inl lt) (λ ge. inr (omega (arith, one-row-more n w))) side in
+        here .outside k a ∙ before .outside k b;
   }
 
 -- Blocks
@@ -91,7 +91,7 @@ module _ (m n w base : ℕ) (f : ℕ → ℕ → ℕ → Time) (old now new : Li
   blocks-more = record {
     inside = λ b d r h k l. block-inside b (⊎-elim (λ e. inr e) (λ ne. inl (omega arith)) (cases-eq b m)) d r k l;
     outside = λ k side.
-      let a : Outside (n * w) (base + m * (n * w)) k = ⊎-elim (λ lt. inl (omega arith)) (λ ge. inr (omega (arith, one-row-more m (n * w)))) side in
-      let b : Outside (m * (n * w)) base k = ⊎-elim (λ lt. inl lt) (λ ge. inr (omega (arith, one-row-more m (n * w)))) side in
-      here .outside k a ∙ before .outside k b;
+        let a : Outside (n * w) (base + m * (n * w)) k = ⊎-elim (λ lt. inl (omega arith)) (λ ge. inr (omega (arith, one-row-more m (n * w)))) side in
+        let b : Outside (m * (n * w)) base k = ⊎-elim (λ lt. inl lt) (λ ge. inr (omega (arith, one-row-more m (n * w)))) side in
+        here .outside k a ∙ before .outside k b;
   }

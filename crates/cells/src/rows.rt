@@ -7,14 +7,21 @@ ghost use Rattle.model.specs.Charts.{late, greatest as greatest-of, same-chart}
 ghost use Rattle.model.specs.Lists.{some};
 ghost use Rattle.cells.specs.Joins.{joins};
 ghost use Rattle.cells.specs.Writes.{Apart, Written};
+use crate::entries::Join;
 use crate::entries::greater;
 use crate::entries::is_late;
 use crate::entries::joined;
-use crate::entries::Join;
 use crate::entries::same_time;
 
 /// Joins two rows of `n` cells into a third, which may be one of them.
-pub fn join_rows(cells: &mut [Option<u64>], n: usize, base: usize, left: usize, right: usize, how: Join)
+pub fn join_rows(
+    cells: &mut [Option<u64>],
+    n: usize,
+    base: usize,
+    left: usize,
+    right: usize,
+    how: Join,
+)
     requires within { ⌜ base + n ≤ length (now cells) ⌝ ∗ ⌜ left + n ≤ length (now cells) ⌝ ∗ ⌜ right + n ≤ length (now cells) ⌝ }
     requires apart { ⌜ Apart n left base ⌝ ∗ ⌜ Apart n right base ⌝ }
     requires timely { ⌜ ((k : ℕ) → k < n → late (joins how (getD (now cells) (left + k) None) (getD (now cells) (right + k) None)) ≡ false) ⌝ }
@@ -38,11 +45,13 @@ pub fn greatest(row: &[Option<u64>]) -> Option<u64>
     most
 }
 
-/// Whether two rows of one length are the same.
+/// Whether two rows are the same.
 pub fn same_rows(left: &[Option<u64>], right: &[Option<u64>]) -> bool
-    requires long { ⌜ length (now left) ≡ length (now right) ⌝ }
     ensures value { λ r. ⌜ r ≡ same-chart (now (left .entry)) (now (right .entry)) ⌝ }
 {
+    if left.len() != right.len() {
+        return false;
+    }
     for i in 0..left.len() {
         if !same_time(left[i], right[i]) {
             return false;

@@ -1,6 +1,7 @@
 ghost use Prim.Native.Nat.{_+_, _*_, _<_, _≤_};
 ghost use lib.ListN.{length, getD};
 ghost use Rattle.std.specs.declared.option.Option.the-variants.{None};
+ghost use Rattle.model.specs.Limits.{most-settings};
 ghost use Rattle.cells.specs.Writes.{Apart, Written, Runs, Blocks, Source};
 use shelf::limits::MOST_SETTINGS;
 
@@ -23,9 +24,14 @@ fn fill_run(cells: &mut [Option<u64>], base: usize, n: usize, value: Option<u64>
 }
 
 /// Writes each setting's entry into its run of a block.
-fn dial_block(cells: &mut [Option<u64>], base: usize, strides: Strides, entries: &[Option<u64>; MOST_SETTINGS])
+fn dial_block(
+    cells: &mut [Option<u64>],
+    base: usize,
+    strides: Strides,
+    entries: &[Option<u64>; MOST_SETTINGS],
+)
     requires within { ⌜ base + strides .count * strides .stride ≤ length (now cells) ⌝ }
-    requires few { ⌜ strides .count ≤ 8 ⌝ }
+    requires few { ⌜ strides .count ≤ most-settings ⌝ }
     ensures runs { λ _. ⌜ Runs (strides .count) (strides .stride) base (λ d _. getD (now (entries .entry)) d None) (now (cells .entry)) (now (cells .exit)) ⌝ }
 {
     for d in 0..strides.count {
@@ -34,10 +40,15 @@ fn dial_block(cells: &mut [Option<u64>], base: usize, strides: Strides, entries:
 }
 
 /// Writes each setting's entry into its runs of a row.
-pub fn dial_row(cells: &mut [Option<u64>], base: usize, strides: Strides, entries: &[Option<u64>; MOST_SETTINGS])
+pub fn dial_row(
+    cells: &mut [Option<u64>],
+    base: usize,
+    strides: Strides,
+    entries: &[Option<u64>; MOST_SETTINGS],
+)
     requires some { ⌜ 0 < strides .blocks ⌝ }
     requires within { ⌜ base + strides .blocks * (strides .count * strides .stride) ≤ length (now cells) ⌝ }
-    requires few { ⌜ strides .count ≤ 8 ⌝ }
+    requires few { ⌜ strides .count ≤ most-settings ⌝ }
     ensures blocks { λ _. ⌜ Blocks (strides .blocks) (strides .count) (strides .stride) base (λ _ d _. getD (now (entries .entry)) d None) (now (cells .entry)) (now (cells .exit)) ⌝ }
 {
     let block = strides.count * strides.stride;
@@ -78,6 +89,11 @@ pub fn put_row(cells: &mut [Option<u64>], to: usize, from: usize, strides: Strid
 {
     let block = strides.count * strides.stride;
     for b in 0..strides.blocks {
-        put_block(cells, to + b * block, from + (b * block + setting * strides.stride), strides);
+        put_block(
+            cells,
+            to + b * block,
+            from + (b * block + setting * strides.stride),
+            strides,
+        );
     }
 }

@@ -62,8 +62,8 @@ module _ (ns : Shape) (cells : List Time) (hung : List Bool) where
     pub flat-wiped : flat ns cells (set hung t false) ≡ with-pegs (flat ns cells hung) (set (flat ns cells hung .pegs) t None)
     flat-wiped =
         ap with (set-table (peg ns cells hung) (peg ns cells (set hung t false)) 8 t None low
-          (ap (λ b. cond b (Some (row cells (size ns) t)) None) (getD-set-same hung t false false inside))
-          (λ q ne. ap (λ b. cond b (Some (row cells (size ns) q)) None) (getD-set-other hung t q false false ne)))
+        (ap (λ b. cond b (Some (row cells (size ns) t)) None) (getD-set-same hung t false false inside))
+        (λ q ne. ap (λ b. cond b (Some (row cells (size ns) q)) None) (getD-set-other hung t q false false ne)))
 
     pub timely-wiped : Timely ns cells hung → Timely ns cells (set hung t false)
     timely-wiped old p =
@@ -76,8 +76,8 @@ module _ (ns : Shape) (cells : List Time) (hung : List Bool) where
       pub flat-hung : flat ns new (set hung t true) ≡ hanging (flat ns cells hung) t c
       flat-hung =
           ap with (set-table (peg ns cells hung) (peg ns new (set hung t true)) 8 t (Some c) low
-            (rw (getD-set-same hung t true false inside, w .here))
-            (λ q ne. rw (getD-set-other hung t q true false ne, w .others q ne)))
+          (rw (getD-set-same hung t true false inside, w .here))
+          (λ q ne. rw (getD-set-other hung t q true false ne, w .others q ne)))
 
       pub timely-hung : Timely ns cells hung → some late c ≡ false → Timely ns new (set hung t true)
       timely-hung old legal p =

@@ -47,8 +47,8 @@ row-kept n t old new len outside q ne =
     ext-getD None (row new n q) (row old n q)
     (length-take n (drop (q * n) new) ∙ (omega (arith, length-drop (q * n) new, length-drop (q * n) old, length-take n (drop (q * n) old))))
     (λ k h.
-      let low : k < n = omega (arith, length-take n (drop (q * n) new)) in
-      row-at new n q k low ∙ outside (q * n + k) (other-place n t q k ne low) ∙ sym (row-at old n q k low))
+    let low : k < n = omega (arith, length-take n (drop (q * n) new)) in
+    row-at new n q k low ∙ outside (q * n + k) (other-place n t q k ne low) ∙ sym (row-at old n q k low))
 
 -- two rows that give a legal chart give no late entry
 pub joined-legal : (n : ℕ) (cells : List Time) (op : Time → Time → Time) (l r : ℕ) → l < 8 → r < 8 → 8 * n ≤ length cells → some late (zipped op (row cells n l) (row cells n r)) ≡ false → (k : ℕ) → k < n → late (op (getD cells (l * n + k) None) (getD cells (r * n + k) None)) ≡ false
@@ -89,10 +89,10 @@ module _ (n t : ℕ) (old new : List Time) (low : t < 8) (room : 8 * n ≤ lengt
       let lt = length-row new n t low long in
       record {
         here = ext-getD None (row new n t) (zipped op (row old n l) (row old n r)) (lt ∙ sym lz) (λ k h.
-          let k-low : k < n = omega arith in
-          row-at new n t k k-low ∙ w .inside k k-low
-          ∙ sym (ap₂ op (row-at old n l k k-low) (row-at old n r k k-low))
-          ∙ sym (zipped-at op (row old n l) (row old n r) k (omega arith) (omega arith)));
+            let k-low : k < n = omega arith in
+            row-at new n t k k-low ∙ w .inside k k-low
+            ∙ sym (ap₂ op (row-at old n l k k-low) (row-at old n r k k-low))
+            ∙ sym (zipped-at op (row old n l) (row old n r) k (omega arith) (omega arith)));
         others = row-kept n t old new len (w .outside);
       }
 
@@ -115,15 +115,15 @@ module _ (ns : Shape) (v t : ℕ) (old new : List Time) (device : v < length ns)
   pub dial-hung : (es : List Time) → Blocks blocks count (stride ns v) (t * size ns) (λ _ d _. getD es d None) old new → Row-hung (size ns) t (dialled ns v es) old new
   dial-hung es w = record {
     here = dialled-by-strides ns v es (row new (size ns) t) device (length-row new (size ns) t low (omega arith)) (λ b d r hb hd hr.
-      row-at new (size ns) t (spot ns v b d r) (spot-low b d r hb hd hr) ∙ w .inside b d r hb hd hr);
+        row-at new (size ns) t (spot ns v b d r) (spot-low b d r hb hd hr) ∙ w .inside b d r hb hd hr);
     others = kept _ w;
   }
 
   pub put-hung : (a d : ℕ) → d < count → Blocks blocks count (stride ns v) (t * size ns) (λ b _ r. getD old (a * size ns + spot ns v b d r) None) old new → Row-hung (size ns) t (put-chart ns v d (row old (size ns) a)) old new
   put-hung a d hd w = record {
     here = put-by-strides ns v d (row old (size ns) a) (row new (size ns) t) device (length-row new (size ns) t low (omega arith)) (λ b x r hb hx hr.
-      row-at new (size ns) t (spot ns v b x r) (spot-low b x r hb hx hr) ∙ w .inside b x r hb hx hr
-      ∙ sym (row-at old (size ns) a (spot ns v b d r) (spot-low b d r hb hd hr)));
+        row-at new (size ns) t (spot ns v b x r) (spot-low b x r hb hx hr) ∙ w .inside b x r hb hx hr
+        ∙ sym (row-at old (size ns) a (spot ns v b d r) (spot-low b d r hb hd hr)));
     others = kept _ w;
   }
 

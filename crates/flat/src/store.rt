@@ -1,5 +1,6 @@
 ghost use Prim.Native.Nat.{_*_, _≤_};
 ghost use Rattle.std.specs.Of.Vec.{vec-items, vec-len};
+ghost use Rattle.model.specs.Limits.{peg-count};
 ghost use Rattle.model.specs.Scenes.{size};
 ghost use Rattle.shelf.specs.Shapes.{shape-of};
 ghost use Rattle.flat.specs.Rows.{Timely};
@@ -12,7 +13,7 @@ pub struct FlatShelf {
     shape: Shape,
     cells: Vec<Option<u64>>,
     hung: [bool; PEGS],
-    ghost room: { 8 * size (shape-of shape) ≤ vec-len cells },
+    ghost room: { peg-count * size (shape-of shape) ≤ vec-len cells },
     ghost timely: { Timely (shape-of shape) (vec-items cells) hung },
 }
 

@@ -117,10 +117,11 @@ pub same-is-equal : Same-is-equal
 same-is-equal [] [] = (λ _. refl, λ _. refl)
 same-is-equal [] (y ∷ b) = (λ e. absurd (grind arith), λ e. absurd (grind arith))
 same-is-equal (x ∷ a) [] = (λ e. absurd (grind arith), λ e. absurd (grind arith))
-same-is-equal (x ∷ a) (y ∷ b) =
-    ( λ e. let both = and-parts (same-time x y) (same-chart a b) e in
-        ap₂ (λ (w : Time) (d : Chart). w ∷ d) (same-time-tells x y .0 (both .0)) (same-is-equal a b .0 (both .1))
-    , λ e. and-from (same-time x y) (same-chart a b) (same-time-tells x y .1 (heads e)) (same-is-equal a b .1 (tails e)))
+same-is-equal (x ∷ a) (y ∷ b) = (
+  λ e. let both = and-parts (same-time x y) (same-chart a b) e in
+      ap₂ (λ (w : Time) (d : Chart). w ∷ d) (same-time-tells x y .0 (both .0)) (same-is-equal a b .0 (both .1)),
+  λ e. and-from (same-time x y) (same-chart a b) (same-time-tells x y .1 (heads e)) (same-is-equal a b .1 (tails e)),
+)
 
 -- Put
 

@@ -89,8 +89,8 @@ of-dialled : (ns : Shape) (v : ℕ) (es : List Time) → v < length ns → No-la
 of-dialled ns v es h =
     over-each (λ s. getD es (getD s v 0) None) (greatest (take (getD ns v 0) es)) (scenes ns)
     (all-weaker (Scene-of ns) (λ s. No-later (getD es (getD s v 0) None) (greatest (take (getD ns v 0) es)))
-      (λ s l. subst (λ (t : Time). No-later t (greatest (take (getD ns v 0) es))) (getD-take (getD ns v 0) es (getD s v 0) None (setting-less ns s v l h)) (entry-under (take (getD ns v 0) es) (getD s v 0)))
-      (scenes ns) (all-scenes ns))
+    (λ s l. subst (λ (t : Time). No-later t (greatest (take (getD ns v 0) es))) (getD-take (getD ns v 0) es (getD s v 0) None (setting-less ns s v l h)) (entry-under (take (getD ns v 0) es) (getD s v 0)))
+    (scenes ns) (all-scenes ns))
 
 of-put : (ns : Shape) (v d : ℕ) (c : Chart) → No-later (greatest (put-chart ns v d c)) (greatest c)
 of-put ns v d c = over-each (λ s. at ns c (set s v d)) (greatest c) (scenes ns) (all-true (λ s. No-later (at ns c (set s v d)) (greatest c)) (λ s. entry-under c _) (scenes ns))

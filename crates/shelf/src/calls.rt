@@ -18,7 +18,12 @@ pub trait Shelf {
 
     /// Hangs the chart that gives a scene the entry of the device's setting. Entries past its last setting are
     /// not read.
-    fn dial(&mut self, target: u8, device: u8, entries: &[Option<u64>; MOST_SETTINGS]) -> Result<(), ShelfFault>
+    fn dial(
+        &mut self,
+        target: u8,
+        device: u8,
+        entries: &[Option<u64>; MOST_SETTINGS],
+    ) -> Result<(), ShelfFault>
         ensures answer { λ r. ⌜ numbered r ≡ does (meaning (now (self .entry))) (a-dial target device (now (entries .entry))) ⌝ }
         ensures left { λ _. ⌜ meaning (now (self .exit)) ≡ done (meaning (now (self .entry))) (a-dial target device (now (entries .entry))) ⌝ };
 

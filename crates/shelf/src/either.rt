@@ -8,7 +8,12 @@ use crate::sides::Either;
 pub impl<A: Shelf, B: Shelf> Shelf for Either<A, B> as EitherShelf {
     ghost meaning = { on-either (A·Shelf .meaning) (B·Shelf .meaning) };
 
-    fn dial(&mut self, target: u8, device: u8, entries: &[Option<u64>; MOST_SETTINGS]) -> Result<(), ShelfFault> {
+    fn dial(
+        &mut self,
+        target: u8,
+        device: u8,
+        entries: &[Option<u64>; MOST_SETTINGS],
+    ) -> Result<(), ShelfFault> {
         match self {
             Either::One(a) => a.dial(target, device, entries),
             Either::Other(b) => b.dial(target, device, entries),

@@ -2,6 +2,7 @@ ghost use mathlib.Core.Path.{_≡_};
 ghost use mathlib.Core.Bool.{false};
 ghost use Prim.Native.Nat.{_≤_};
 ghost use lib.ListN.{length, take};
+ghost use Rattle.model.specs.Limits.{most-devices};
 ghost use Rattle.model.specs.Scenes.{shape-off, size};
 use crate::limits::MOST_DEVICES;
 
@@ -11,8 +12,8 @@ pub struct Shape {
     settings: [u8; MOST_DEVICES],
     devices: usize,
     scenes: usize,
-    ghost long: { length settings ≡ 12 },
-    ghost few: { devices ≤ 12 },
+    ghost long: { length settings ≡ most-devices },
+    ghost few: { devices ≤ most-devices },
     ghost legal: { shape-off (take devices settings) ≡ false },
     ghost counted: { scenes ≡ size (take devices settings) },
 }

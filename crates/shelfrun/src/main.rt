@@ -1,7 +1,7 @@
 // Opens a flat shelf, hangs, joins, puts and reads charts on it, and prints what it read.
-use memory::handed_back;
-use flat::store::calls::FlatShelfShelf;
 use flat::store::FlatShelf;
+use flat::store::calls::FlatShelfShelf;
+use memory::handed_back;
 use print::chart;
 use print::compared;
 use print::read;
@@ -26,7 +26,11 @@ fn hang<S: Shelf>(rt: &LibcRuntime, shelf: &mut S) -> io::Result<()> {
     chart(rt, shelf, 2)?;
     said(rt, "cheaper of 0 and 1 onto peg 3", shelf.cheaper(3, 0, 1))?;
     chart(rt, shelf, 3)?;
-    said(rt, "put device 1 at 2 from 2 onto peg 2", shelf.put(2, 2, 1, 2))?;
+    said(
+        rt,
+        "put device 1 at 2 from 2 onto peg 2",
+        shelf.put(2, 2, 1, 2),
+    )?;
     chart(rt, shelf, 2)?;
     compared(rt, "pegs 2 and 0", shelf.same(2, 0))?;
     compared(rt, "pegs 2 and 3", shelf.same(2, 3))
@@ -36,7 +40,11 @@ fn hang<S: Shelf>(rt: &LibcRuntime, shelf: &mut S) -> io::Result<()> {
 fn refused<S: Shelf>(rt: &LibcRuntime, shelf: &mut S) -> io::Result<()> {
     let late = [Some(1_000_000_000_000_000_001); 8];
     said(rt, "dial device 2 onto peg 0", shelf.dial(0, 2, &late))?;
-    said(rt, "put device 1 at 3 from 0 onto peg 0", shelf.put(0, 0, 1, 3))?;
+    said(
+        rt,
+        "put device 1 at 3 from 0 onto peg 0",
+        shelf.put(0, 0, 1, 3),
+    )?;
     said(rt, "sum of 0 and 8 onto peg 4", shelf.sum(4, 0, 8))?;
     said(rt, "cheaper of 0 and 5 onto peg 4", shelf.cheaper(4, 0, 5))?;
     said(rt, "dial a late time onto peg 0", shelf.dial(0, 0, &late))?;

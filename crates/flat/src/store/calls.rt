@@ -1,8 +1,8 @@
 ghost use Rattle.flat.specs.Means.{means};
+use crate::store::FlatShelf;
 use cells::entries::Join;
 use cells::rows::same_rows;
 use cells::rows::some_late;
-use crate::store::FlatShelf;
 use shelf::calls::Shelf;
 use shelf::fault::ShelfFault;
 use shelf::limits::MOST_SETTINGS;
@@ -12,7 +12,12 @@ use shelf::limits::PEGS;
 pub impl Shelf for FlatShelf as FlatShelfShelf {
     ghost meaning = { means };
 
-    fn dial(&mut self, target: u8, device: u8, entries: &[Option<u64>; MOST_SETTINGS]) -> Result<(), ShelfFault> {
+    fn dial(
+        &mut self,
+        target: u8,
+        device: u8,
+        entries: &[Option<u64>; MOST_SETTINGS],
+    ) -> Result<(), ShelfFault> {
         let t = target as usize;
         let v = device as usize;
         if v >= self.shape.devices() {

@@ -38,11 +38,21 @@ impl FlatShelf {
         ensures answer { λ r. ⌜ Opened (now (settings .entry)) cells r ⌝ }
     {
         let Some(shape) = Shape::of(settings) else {
-            return Err(Unopened { fault: OpenFault::CountsOff, cells });
+            return Err(Unopened {
+                fault: OpenFault::CountsOff,
+                cells,
+            });
         };
         if cells.len() < PEGS * shape.scenes() {
-            return Err(Unopened { fault: OpenFault::MemoryShort, cells });
+            return Err(Unopened {
+                fault: OpenFault::MemoryShort,
+                cells,
+            });
         }
-        Ok(FlatShelf { shape, cells, hung: [false; PEGS] })
+        Ok(FlatShelf {
+            shape,
+            cells,
+            hung: [false; PEGS],
+        })
     }
 }

@@ -3,6 +3,7 @@ ghost use mathlib.Core.Bool.{true, false};
 ghost use Prim.Native.Nat.{_+_, _<_, _≤_, _^_};
 ghost use lib.ListN.{length, getD, take, drop};
 ghost use Rattle.std.specs.Options.{Cases};
+ghost use Rattle.model.specs.Limits.{most-devices, most-settings};
 ghost use Rattle.model.specs.Refusals.{answer};
 ghost use Rattle.model.specs.Scenes.{shape-off, size, rank};
 ghost use Rattle.model.specs.Shelves.{scene-checks};
@@ -17,7 +18,7 @@ use crate::shape::Shape;
 
 /// The counts at the front of an array.
 fn padded(settings: &[u8]) -> [u8; MOST_DEVICES]
-    requires few { ⌜ length (now settings) ≤ 12 ⌝ }
+    requires few { ⌜ length (now settings) ≤ most-devices ⌝ }
     ensures front { λ r. ⌜ take (length (now (settings .entry))) r ≡ now (settings .entry) ⌝ }
 {
     let mut all = [0; MOST_DEVICES];
@@ -36,7 +37,11 @@ impl Shape {
             return None;
         }
         let scenes = scenes(settings);
-        Some(Shape { settings: padded(settings), devices: settings.len(), scenes })
+        Some(Shape {
+            settings: padded(settings),
+            devices: settings.len(),
+            scenes,
+        })
     }
 
     /// The number of settings of each device.
@@ -58,7 +63,7 @@ impl Shape {
     pub fn count(&self, device: usize) -> usize
         requires low { ⌜ device < length (shape-of (now self)) ⌝ }
         ensures value { λ r. ⌜ r ≡ getD (shape-of (now (self .entry))) device 0 ⌝ }
-        ensures bound { λ r. ⌜ r ≤ 8 ⌝ }
+        ensures bound { λ r. ⌜ r ≤ most-settings ⌝ }
     {
         let settings = self.settings();
         settings[device] as usize
@@ -67,7 +72,7 @@ impl Shape {
     /// How many scenes there are.
     pub fn scenes(&self) -> usize
         ensures value { λ r. ⌜ r ≡ size (shape-of (now (self .entry))) ⌝ }
-        ensures bound { λ r. ⌜ r ≤ 8 ^ 12 ⌝ }
+        ensures bound { λ r. ⌜ r ≤ most-settings ^ most-devices ⌝ }
     {
         self.scenes
     }

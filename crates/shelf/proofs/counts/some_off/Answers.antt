@@ -12,9 +12,10 @@ returns-then-n-lt-LEAST-SETTINGS c =
     let ns = c .args .settings .now in
     let i = c .loop-count .count-index in
     let off : count-off (getD ns i 0) ≡ true =
-      elim (c .then-n-lt-LEAST-SETTINGS .came) [
-        then-n-lt-LEAST-SETTINGS·by·then-n-lt-LEAST-SETTINGS w ↦ or-left _ _ (lt-ltb (getD ns i 0) 2 (w .if-n-lt-LEAST-SETTINGS .taken))
-      | then-n-lt-LEAST-SETTINGS·by·else-n-lt-LEAST-SETTINGS·then-n-gt-MOST-SETTINGS w ↦ or-right _ _ (lt-ltb 8 (getD ns i 0) (w .if-n-gt-MOST-SETTINGS .taken)) ] in
+    elim (c .then-n-lt-LEAST-SETTINGS .came) [
+      | then-n-lt-LEAST-SETTINGS·by·then-n-lt-LEAST-SETTINGS w ↦ or-left _ _ (lt-ltb (getD ns i 0) 2 (w .if-n-lt-LEAST-SETTINGS .taken))
+      | then-n-lt-LEAST-SETTINGS·by·else-n-lt-LEAST-SETTINGS·then-n-gt-MOST-SETTINGS w ↦ or-right _ _ (lt-ltb 8 (getD ns i 0) (w .if-n-gt-MOST-SETTINGS .taken))
+    ] in
     record { value = sym (some-here count-off ns i (c .loop-count .inv) 0 (c .loop-count-test .taken) off) }
 
 pub loop-count-again : need.loop-count-again

@@ -27,7 +27,7 @@ join-rows-requires c κs =
       within = (within-row (c .args .target) n _ (low .0) room, (within-row (c .args .left) n _ (low .1 .0) room, within-row (c .args .right) n _ (low .1 .1) room));
       apart = (apart-rows n (c .args .left) (c .args .target), apart-rows n (c .args .right) (c .args .target));
       timely = joined-legal n cells (joins (c .args .how)) (c .args .left) (c .args .right) (low .1 .0) (low .1 .1) room
-        ((λ i. some late (zipped (joins (c .args .how)) (row (c .as-mut-slice .ensures .value i) (c .scenes-n .ensures .value i) (c .args .left)) (row (c .as-mut-slice .ensures .value i) (c .scenes-n .ensures .value i) (c .args .right)))) ∙ c .pre .legal);
+          ((λ i. some late (zipped (joins (c .args .how)) (row (c .as-mut-slice .ensures .value i) (c .scenes-n .ensures .value i) (c .args .left)) (row (c .as-mut-slice .ensures .value i) (c .scenes-n .ensures .value i) (c .args .right)))) ∙ c .pre .legal);
     }
 
 pub ghost-self : need.ghost-self
@@ -37,9 +37,14 @@ ghost-self c =
     let new = c .join-rows .last .cells in
     let len : length new ≡ vec-len (s .cells) = search needs in
     let eight : length (s .hung) ≡ 8 = search needs in
-    let w = joined-left ns (c .scenes-n .result) (c .args .target) (vec-items (s .cells)) (c .as-mut-slice .result .now) new (c .scenes-n .ensures .value) (c .as-mut-slice .ensures .value) (c .pre .low .0) (omega (arith, s .room, s .cells .ok .0)) (omega (arith, len, s .cells .ok .0)) (joins (c .args .how)) (c .args .left) (c .args .right) (c .pre .low .1 .0) (c .pre .low .1 .1) (c .join-rows .ensures .row) in
-    (s .room, (subst (λ (xs : List Time). Timely ns xs (set (s .hung) (c .args .target) true)) (sym (refilled-is (s .cells) new len))
-      (timely-hung ns (vec-items (s .cells)) (s .hung) eight (c .args .target) (c .pre .low .0) new _ w (s .timely) (c .pre .legal)), tt))
+    let w = joined-left ns (c .scenes-n .result) (c .args .target) (vec-items (s .cells)) (c .as-mut-slice .result .now) new (c .scenes-n .ensures .value) (c .as-mut-slice .ensures .value) (c .pre .low .0) (omega (arith, s .room, s .cells .ok .0)) (omega (arith, len, s .cells .ok .0)) (joins (c .args .how)) (c .args .left) (c .args .right) (c .pre .low .1 .0) (c .pre .low .1 .1) (c .join-rows .ensures .row) in (
+      s .room,
+      (
+        subst (λ (xs : List Time). Timely ns xs (set (s .hung) (c .args .target) true)) (sym (refilled-is (s .cells) new len))
+            (timely-hung ns (vec-items (s .cells)) (s .hung) eight (c .args .target) (c .pre .low .0) new _ w (s .timely) (c .pre .legal)),
+        tt,
+      ),
+    )
 
 pub returns : need.returns
 returns c =
@@ -49,6 +54,8 @@ returns c =
     let len : length new ≡ vec-len (s .cells) = search needs in
     let eight : length (s .hung) ≡ 8 = search needs in
     let w = joined-left ns (c .scenes-n .result) (c .args .target) (vec-items (s .cells)) (c .as-mut-slice .result .now) new (c .scenes-n .ensures .value) (c .as-mut-slice .ensures .value) (c .pre .low .0) (omega (arith, s .room, s .cells .ok .0)) (omega (arith, len, s .cells .ok .0)) (joins (c .args .how)) (c .args .left) (c .args .right) (c .pre .low .1 .0) (c .pre .low .1 .1) (c .join-rows .ensures .row) in
-    record { hung =
-      ap (λ (xs : List Time). flat ns xs (set (s .hung) (c .args .target) true)) (refilled-is (s .cells) new len)
-      ∙ flat-hung ns (vec-items (s .cells)) (s .hung) eight (c .args .target) (c .pre .low .0) new _ w }
+    record {
+      hung =
+          ap (λ (xs : List Time). flat ns xs (set (s .hung) (c .args .target) true)) (refilled-is (s .cells) new len)
+          ∙ flat-hung ns (vec-items (s .cells)) (s .hung) eight (c .args .target) (c .pre .low .0) new _ w;
+    }

@@ -44,9 +44,14 @@ ghost-self c =
     let new = c .put-row .last .cells in
     let len : length new ≡ vec-len (s .cells) = search needs in
     let eight : length (s .hung) ≡ 8 = search needs in
-    let w = put-left ns (c .scenes-n .result) t (vec-items (s .cells)) (c .as-mut-slice .result .now) new (c .scenes-n .ensures .value) (c .as-mut-slice .ensures .value) (c .pre .low .0) (omega (arith, s .room, s .cells .ok .0)) (omega (arith, len, s .cells .ok .0)) (c .args .device) (x .blocks) (x .count) (x .stride) (c .pre .low .1 .1 .0) (e .blocks) (e .count) (e .stride) (c .args .source) (c .args .setting) (omega (arith, e .count, c .pre .low .1 .1 .1)) (c .put-row .ensures .blocks) in
-    (s .room, (subst (λ (xs : List Time). Timely ns xs (set (s .hung) t true)) (sym (refilled-is (s .cells) new len))
-      (timely-hung ns (vec-items (s .cells)) (s .hung) eight t (c .pre .low .0) new _ w (s .timely) (c .pre .legal)), tt))
+    let w = put-left ns (c .scenes-n .result) t (vec-items (s .cells)) (c .as-mut-slice .result .now) new (c .scenes-n .ensures .value) (c .as-mut-slice .ensures .value) (c .pre .low .0) (omega (arith, s .room, s .cells .ok .0)) (omega (arith, len, s .cells .ok .0)) (c .args .device) (x .blocks) (x .count) (x .stride) (c .pre .low .1 .1 .0) (e .blocks) (e .count) (e .stride) (c .args .source) (c .args .setting) (omega (arith, e .count, c .pre .low .1 .1 .1)) (c .put-row .ensures .blocks) in (
+      s .room,
+      (
+        subst (λ (xs : List Time). Timely ns xs (set (s .hung) t true)) (sym (refilled-is (s .cells) new len))
+            (timely-hung ns (vec-items (s .cells)) (s .hung) eight t (c .pre .low .0) new _ w (s .timely) (c .pre .legal)),
+        tt,
+      ),
+    )
 
 pub returns : need.returns
 returns c =
@@ -59,6 +64,8 @@ returns c =
     let len : length new ≡ vec-len (s .cells) = search needs in
     let eight : length (s .hung) ≡ 8 = search needs in
     let w = put-left ns (c .scenes-n .result) t (vec-items (s .cells)) (c .as-mut-slice .result .now) new (c .scenes-n .ensures .value) (c .as-mut-slice .ensures .value) (c .pre .low .0) (omega (arith, s .room, s .cells .ok .0)) (omega (arith, len, s .cells .ok .0)) (c .args .device) (x .blocks) (x .count) (x .stride) (c .pre .low .1 .1 .0) (e .blocks) (e .count) (e .stride) (c .args .source) (c .args .setting) (omega (arith, e .count, c .pre .low .1 .1 .1)) (c .put-row .ensures .blocks) in
-    record { hung =
-      ap (λ (xs : List Time). flat ns xs (set (s .hung) t true)) (refilled-is (s .cells) new len)
-      ∙ flat-hung ns (vec-items (s .cells)) (s .hung) eight t (c .pre .low .0) new _ w }
+    record {
+      hung =
+          ap (λ (xs : List Time). flat ns xs (set (s .hung) t true)) (refilled-is (s .cells) new len)
+          ∙ flat-hung ns (vec-items (s .cells)) (s .hung) eight t (c .pre .low .0) new _ w;
+    }

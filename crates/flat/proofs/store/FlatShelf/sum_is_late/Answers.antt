@@ -8,7 +8,8 @@ pub sum-is-late-requires : need.sum-is-late-requires
 sum-is-late-requires c κs =
     let s = c .args .self .now in
     record {
-      timely =
-        ( ap late (c .greatest .ensures .value ∙ ap greatest (c .row .ensures .value)) ∙ sym (late-tells (row-of s (c .args .left))) ∙ c .pre .legal .0
-        , ap late (c .greatest-2 .ensures .value ∙ ap greatest (c .row-2 .ensures .value)) ∙ sym (late-tells (row-of s (c .args .right))) ∙ c .pre .legal .1);
+      timely = (
+        ap late (c .greatest .ensures .value ∙ ap greatest (c .row .ensures .value)) ∙ sym (late-tells (row-of s (c .args .left))) ∙ c .pre .legal .0,
+        ap late (c .greatest-2 .ensures .value ∙ ap greatest (c .row-2 .ensures .value)) ∙ sym (late-tells (row-of s (c .args .right))) ∙ c .pre .legal .1,
+      );
     }

@@ -11,9 +11,10 @@ loop-i-again c =
     let i = c .loop-i .i in
     let ns = c .args .settings .now in
     let long : length (c .loop-i .all) ≡ 12 = c .loop-i .inv .0 in
-    let inside : i < length (c .loop-i .all) = omega (arith, c .pre .few) in
-    ( length-set (c .loop-i .all) i (getD ns i 0) ∙ long
-    , take-more-set (c .loop-i .all) i (getD ns i 0) inside ∙ ap (λ xs. xs ++ getD ns i 0 ∷ []) (c .loop-i .inv .1) ∙ sym (take-more ns i 0 (c .loop-i-test .taken)))
+    let inside : i < length (c .loop-i .all) = omega (arith, c .pre .few) in (
+      length-set (c .loop-i .all) i (getD ns i 0) ∙ long,
+      take-more-set (c .loop-i .all) i (getD ns i 0) inside ∙ ap (λ xs. xs ++ getD ns i 0 ∷ []) (c .loop-i .inv .1) ∙ sym (take-more ns i 0 (c .loop-i-test .taken)),
+    )
 
 pub returns : need.returns
 returns c =

@@ -19,9 +19,10 @@ returns-then-not-self-l c =
     let l = c .args .left in
     let r = c .args .right in
     let bare : (getD (s .hung) l false ≡ false) ⊎ (getD (s .hung) r false ≡ false) =
-      elim (c .then-not-self-l .came) [
-        then-not-self-l·by·then-not-self-l w ↦ inl (w .if-not-self-l .taken)
-      | then-not-self-l·by·else-not-self-l·then-not-self-r w ↦ inr (w .if-not-self-r .taken) ] in
+    elim (c .then-not-self-l .came) [
+      | then-not-self-l·by·then-not-self-l w ↦ inl (w .if-not-self-l .taken)
+      | then-not-self-l·by·else-not-self-l·then-not-self-r w ↦ inr (w .if-not-self-r .taken)
+    ] in
     let e = cheaper-bare (shape-of (s .shape)) (vec-items (s .cells)) (s .hung) l r (c .if-l-ge-PEGS .left) (c .if-r-ge-PEGS .left) (c .args .target) (c .if-t-ge-PEGS .left) bare in
     record { answer = sym e; left = sym (call-refused (means s) (cheaper (c .args .target) l r) 15 e) }
 
@@ -32,7 +33,7 @@ hang-joined-requires c κs =
     let cells = vec-items (s .cells) in
     let sound : Sound (means s) = flat-sound ns cells (s .hung) (s .shape .legal) (omega (arith, s .room, s .cells .ok .0)) (s .timely) in
     record {
-      low = (c .if-t-ge-PEGS .left, (c .if-l-ge-PEGS .left, c .if-r-ge-PEGS .left));
+      low = (omega arith, (omega arith, omega arith));
       legal = cheaper-legal ns cells (s .hung) (c .args .left) (c .args .right) (c .if-l-ge-PEGS .left) (c .if-r-ge-PEGS .left) (c .args .target) (c .if-t-ge-PEGS .left) (c .if-not-self-l .left) (c .if-not-self-r .left) sound;
     }
 

@@ -1,6 +1,6 @@
 use mathlib.Core.Path.{_≡_, sym, ap, _∙_}
 use mathlib.Core.Bool.{false}
-use Prim.Native.Nat.{_<_}
+use Prim.Native.Nat.{_-_, _<_}
 use lib.ListN.{length, getD, take}
 use native.Mathlib.Omega.{arith}
 use Rattle.std.specs.Of.Vec.{vec-items}
@@ -21,6 +21,7 @@ hang-dial-requires c κs =
     let v = c .args .device in
     let es = c .args .entries .now in
     let device : v < length ns = omega (arith, c .if-v-devices .left, c .devices .ensures .value) in
-    let timely : some late (take (getD ns v 0) es) ≡ false = ap (λ k. some late (take k es)) (omega (arith, c .count-count .ensures .value)) ∙ sym (c .some-late .ensures .value) ∙ c .if-some-late .left in
+    let count : getD ns v 0 ≡ c .count-count .result - 0 = omega (arith, c .count-count .ensures .value) in
+    let timely : some late (take (getD ns v 0) es) ≡ false = ap (λ k. some late (take k es)) count ∙ sym (c .some-late .ensures .value) ∙ c .if-some-late .left in
     let sound : Sound (means s) = flat-sound ns cells (s .hung) (s .shape .legal) (omega (arith, s .room, s .cells .ok .0)) (s .timely) in
-    record { low = (c .if-t-ge-PEGS .left, device); legal = dial-legal ns cells (s .hung) (c .args .target) v es device (c .if-t-ge-PEGS .left) timely sound }
+    record { low = (omega arith, device); legal = dial-legal ns cells (s .hung) (c .args .target) v es device (c .if-t-ge-PEGS .left) timely sound }

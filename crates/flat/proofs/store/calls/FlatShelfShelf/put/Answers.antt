@@ -44,7 +44,7 @@ hang-put-requires c κs =
     let setting : c .args .setting < getD ns (c .args .device) 0 = omega (arith, c .if-d-count .left, c .count .ensures .value) in
     let sound : Sound (means s) = flat-sound ns cells (s .hung) (s .shape .legal) (omega (arith, s .room, s .cells .ok .0)) (s .timely) in
     record {
-      low = (c .if-t-ge-PEGS .left, (c .if-a-ge-PEGS .left, (device, setting)));
+      low = (omega arith, (omega arith, (device, setting)));
       legal = put-legal ns cells (s .hung) (c .args .target) (c .args .source) (c .args .device) (c .args .setting) device setting (c .if-t-ge-PEGS .left) (c .if-a-ge-PEGS .left) (c .if-not-self-a .left) sound;
     }
 

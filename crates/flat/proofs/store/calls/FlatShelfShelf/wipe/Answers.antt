@@ -29,5 +29,5 @@ returns c =
     record {
       answer = sym ok;
       left = flat-wiped (shape-of (s .shape)) (vec-items (s .cells)) (s .hung) eight p (c .if-p-ge-PEGS .left)
-        ∙ sym (left-ok (wipes (means s) p) tt (with-pegs (means s) (set (means s .pegs) p None)) (means s) ok);
+          ∙ sym (left-ok (wipes (means s) p) tt (with-pegs (means s) (set (means s .pegs) p None)) (means s) ok);
     }
