@@ -2,7 +2,7 @@ ghost use mathlib.Core.Path.{_≡_};
 ghost use mathlib.Core.Bool.{false};
 ghost use Rattle.model.specs.Charts.{late, lesser as lesser-of, greater as greater-of, plus as plus-of, same-time as is-same};
 ghost use Rattle.cells.specs.Joins.{joins};
-use shelf::limits::MOST_TIME;
+use lists::limits::MOST_TIME;
 
 /// How two entries are joined.
 #[derive(Clone, Copy)]

@@ -3,7 +3,7 @@ ghost use lib.ListN.{length, getD};
 ghost use Rattle.std.specs.declared.option.Option.the-variants.{None};
 ghost use Rattle.model.specs.Limits.{most-settings};
 ghost use Rattle.cells.specs.Writes.{Apart, Written, Runs, Blocks, Source};
-use shelf::limits::MOST_SETTINGS;
+use lists::limits::MOST_SETTINGS;
 
 /// How a row falls into blocks, each with a run of cells for each setting of one device.
 #[derive(Clone, Copy)]

@@ -4,7 +4,7 @@ ghost use Rattle.model.specs.Limits.{peg-count};
 ghost use Rattle.model.specs.Scenes.{size};
 ghost use Rattle.shelf.specs.Shapes.{shape-of};
 ghost use Rattle.flat.specs.Rows.{Timely};
-use shelf::limits::PEGS;
+use lists::limits::PEGS;
 use shelf::shape::Shape;
 
 /// A shelf over memory of its own: a row of cells for each peg, of which that of a bare peg is free.

@@ -3,7 +3,7 @@ ghost use Rattle.model.specs.Shelves.{Meaning, Sound, does, done, wipes, wiped,
 ghost use Rattle.model.specs.Shelves.{dial as a-dial, cheaper as a-cheaper, sum as a-sum, put as a-put};
 ghost use Rattle.shelf.specs.Faults.{numbered};
 use crate::fault::ShelfFault;
-use crate::limits::MOST_SETTINGS;
+use lists::limits::MOST_SETTINGS;
 
 /// A store of eight charts: functions from the scenes of one shape to a time, or never.
 ///

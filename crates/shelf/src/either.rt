@@ -1,7 +1,7 @@
 ghost use Rattle.shelf.specs.Sides.{on-either};
 use crate::calls::Shelf;
 use crate::fault::ShelfFault;
-use crate::limits::MOST_SETTINGS;
+use lists::limits::MOST_SETTINGS;
 use crate::sides::Either;
 
 /// One of two shelves means what that one means, and answers as it answers.

@@ -4,7 +4,7 @@ ghost use Prim.Native.Nat.{_≤_};
 ghost use lib.ListN.{length, take};
 ghost use Rattle.model.specs.Limits.{most-devices};
 ghost use Rattle.model.specs.Scenes.{shape-off, size};
-use crate::limits::MOST_DEVICES;
+use lists::limits::MOST_DEVICES;
 
 /// The number of settings of each device, each within its limits, and how many scenes that gives.
 #[derive(Clone, Copy)]

@@ -5,8 +5,8 @@ use cells::rows::same_rows;
 use cells::rows::some_late;
 use shelf::calls::Shelf;
 use shelf::fault::ShelfFault;
-use shelf::limits::MOST_SETTINGS;
-use shelf::limits::PEGS;
+use lists::limits::MOST_SETTINGS;
+use lists::limits::PEGS;
 
 /// A flat shelf always has room.
 pub impl Shelf for FlatShelf as FlatShelfShelf {

@@ -17,7 +17,7 @@ use cells::rows::join_rows;
 use cells::runs::Strides;
 use cells::runs::dial_row;
 use cells::runs::put_row;
-use shelf::limits::MOST_SETTINGS;
+use lists::limits::MOST_SETTINGS;
 
 impl FlatShelf {
     /// The row of cells of a peg.

@@ -1,7 +1,7 @@
 ghost use mathlib.Core.Path.{_≡_};
 ghost use Rattle.flat.specs.Openings.{number as number-of, Opened};
 use crate::store::FlatShelf;
-use shelf::limits::PEGS;
+use lists::limits::PEGS;
 use shelf::shape::Shape;
 
 /// Why a flat shelf does not open.

@@ -9,11 +9,11 @@ ghost use Rattle.model.specs.Scenes.{shape-off, size, rank};
 ghost use Rattle.model.specs.Shelves.{scene-checks};
 ghost use Rattle.shelf.specs.Faults.{numbered};
 ghost use Rattle.shelf.specs.Shapes.{shape-of};
-use crate::counts::counts_off;
+use lists::counts::shape_off;
 use crate::counts::place;
 use crate::counts::scenes;
 use crate::fault::ShelfFault;
-use crate::limits::MOST_DEVICES;
+use lists::limits::MOST_DEVICES;
 use crate::shape::Shape;
 
 /// The counts at the front of an array.
@@ -33,7 +33,7 @@ impl Shape {
     pub fn of(settings: &[u8]) -> Option<Shape>
         ensures value { λ r. ⌜ Cases r (shape-off (now (settings .entry)) ≡ true) (λ s. (shape-off (now (settings .entry)) ≡ false) × (shape-of s ≡ now (settings .entry))) ⌝ }
     {
-        if counts_off(settings) {
+        if shape_off(settings) {
             return None;
         }
         let scenes = scenes(settings);
