@@ -46,13 +46,14 @@ module _ (done : List Surcharge) (xs : List Charge) (i : ℕ) (d : Charge) (lt :
 
   -- one more
   pub one-more : (x : Surcharge) → tests-off (charge-of d) ≡ false → surcharge-of x ≡ charge-of d → Partway (done ++ x ∷ []) xs (i + 1)
-  one-more x h e =
-      ( ap (λ (l : List model.Surcharge). l ++ charges-of (drop (i + 1) xs)) (map-append surcharge-of done (x ∷ []))
+  one-more x h e = (
+    ap (λ (l : List model.Surcharge). l ++ charges-of (drop (i + 1) xs)) (map-append surcharge-of done (x ∷ []))
         ∙ append-assoc (map surcharge-of done) (surcharge-of x ∷ []) (charges-of (drop (i + 1) xs))
         ∙ ap (λ (y : model.Surcharge). map surcharge-of done ++ (y ∷ charges-of (drop (i + 1) xs))) (e ∙ ap charge-of now)
         ∙ sym (ap (λ (l : List model.Surcharge). map surcharge-of done ++ l) (at-drop-more charges-of xs i d lt))
-        ∙ inv .0
-      , sym (some-seen tests-off charge-of xs i d false lt (sym h ∙ ap (λ (x : Charge). tests-off (charge-of x)) now)) ∙ inv .1)
+        ∙ inv .0,
+    sym (some-seen tests-off charge-of xs i d false lt (sym h ∙ ap (λ (x : Charge). tests-off (charge-of x)) now)) ∙ inv .1,
+  )
 
   -- one too many
   pub one-many : most-surcharges ≤ length done → surcharges-off (charges-of xs) ≡ true
@@ -67,12 +68,13 @@ module _ (done : List Surcharge) (xs : List Charge) (i : ℕ) (d : Charge) (lt :
 pub all-done : (done : List Surcharge) (xs : List Charge) (i : ℕ) → length xs ≤ i → length done ≤ most-surcharges → Partway done xs i → (surcharges-off (charges-of xs) ≡ false) × (map surcharge-of done ≡ charges-of xs)
 all-done done xs i le few inv =
     let whole : map surcharge-of done ≡ charges-of xs =
-      sym (append-nil (map surcharge-of done)) ∙ sym (ap (λ (l : List model.Surcharge). map surcharge-of done ++ l) (at-drop-all charges-of xs i le)) ∙ inv .0 in
+    sym (append-nil (map surcharge-of done)) ∙ sym (ap (λ (l : List model.Surcharge). map surcharge-of done ++ l) (at-drop-all charges-of xs i le)) ∙ inv .0 in
     let l : length (map surcharge-of done) ≡ length (charges-of xs) = ap length whole in
-    let seen = length-map done surcharge-of in
-    ( or-from (ltb most-surcharges (length (charges-of xs))) (some tests-off (charges-of xs)) (le-ltb most-surcharges (length (charges-of xs)) (omega arith))
-      (sym (inv .1) ∙ some-seen-all tests-off charge-of xs i le)
-    , whole)
+    let seen = length-map done surcharge-of in (
+      or-from (ltb most-surcharges (length (charges-of xs))) (some tests-off (charges-of xs)) (le-ltb most-surcharges (length (charges-of xs)) (omega arith))
+          (sym (inv .1) ∙ some-seen-all tests-off charge-of xs i le),
+      whole,
+    )
 
 -- a move's lists
 

@@ -10,13 +10,16 @@ ghost use Rattle.drafts.specs.Drafts.{charge-of, charges-of, draft-of};
 use crate::draft::Charge;
 use crate::draft::Draft;
 use lists::limits::*;
+use lists::short::Short;
 use moves::entry::Move;
 use moves::entry::Surcharge;
 use moves::pair::Pair;
-use lists::short::Short;
 
 /// Fills the room past the end of a bounded list; never read.
-const NO_PAIR: Pair = Pair { device: 0, setting: 0 };
+const NO_PAIR: Pair = Pair {
+    device: 0,
+    setting: 0,
+};
 
 impl Charge {
     /// The surcharge, or nothing where it has no test or too many.

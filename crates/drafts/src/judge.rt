@@ -10,11 +10,11 @@ ghost use Rattle.drafts.specs.Flaws.{flawed, free};
 ghost use Rattle.moves.specs.Views.{pair-of, pairs-of};
 ghost use Rattle.drafts.specs.Drafts.{charge-of, charges-of};
 use crate::draft::Charge;
-use moves::fault::RigFault;
 use lists::limits::*;
+use lists::repeats::first_repeat;
+use moves::fault::RigFault;
 use moves::pair::Pair;
 use moves::pair::PairKeyed;
-use lists::repeats::first_repeat;
 
 /// What can be wrong with a list of pairs.
 #[derive(Clone, Copy)]
@@ -70,14 +70,27 @@ fn some_has(flaw: Flaw, charges: &[Charge], settings: &[u8]) -> bool
 }
 
 /// Whether the conditions, the effects or the tests of some surcharge have the flaw.
-fn any_has(flaw: Flaw, conditions: &[Pair], effects: &[Pair], charges: &[Charge], settings: &[u8]) -> bool
+fn any_has(
+    flaw: Flaw,
+    conditions: &[Pair],
+    effects: &[Pair],
+    charges: &[Charge],
+    settings: &[u8],
+) -> bool
     ensures { λ r. ⌜ r ≡ some (flawed flaw (now (settings .entry))) (pairs-of (now (conditions .entry)) ∷ pairs-of (now (effects .entry)) ∷ tested (charges-of (now (charges .entry)))) ⌝ }
 {
-    has(flaw, conditions, settings) || has(flaw, effects, settings) || some_has(flaw, charges, settings)
+    has(flaw, conditions, settings)
+        || has(flaw, effects, settings)
+        || some_has(flaw, charges, settings)
 }
 
 /// Devices that there are, settings that they have, and no device twice in a list.
-pub(crate) fn judge_pairs(conditions: &[Pair], effects: &[Pair], charges: &[Charge], settings: &[u8]) -> Result<(), RigFault>
+pub(crate) fn judge_pairs(
+    conditions: &[Pair],
+    effects: &[Pair],
+    charges: &[Charge],
+    settings: &[u8],
+) -> Result<(), RigFault>
     ensures { λ r. ⌜ numbered r ≡ answer (pair-checks (now (settings .entry)) (pairs-of (now (conditions .entry)) ∷ pairs-of (now (effects .entry)) ∷ tested (charges-of (now (charges .entry))))) tt ⌝ }
 {
     if any_has(Flaw::DeviceHigh, conditions, effects, charges, settings) {

@@ -9,20 +9,25 @@ ghost use Rattle.drafts.specs.Drafts.{charges-of, draft-of};
 use crate::bounded::bounded_all;
 use crate::draft::Charge;
 use crate::draft::Draft;
-use moves::fault::RigFault;
 use crate::judge::judge_pairs;
 use crate::judge::times_off;
 use lists::limits::*;
+use lists::short::Short;
 use moves::entry::Move;
 use moves::entry::Surcharge;
-use lists::short::Short;
+use moves::fault::RigFault;
 
 impl Draft {
     /// The move that a slot may hold.
     pub fn lawful(&self, settings: &[u8]) -> Result<Move, RigFault>
         ensures { λ r. ⌜ Judged (move-checks (now (settings .entry)) (draft-of (now (self .entry)))) (λ m. move-of m ≡ draft-of (now (self .entry))) r ⌝ }
     {
-        judge_pairs(self.conditions.as_slice(), self.effects.as_slice(), self.surcharges.as_slice(), settings)?;
+        judge_pairs(
+            self.conditions.as_slice(),
+            self.effects.as_slice(),
+            self.surcharges.as_slice(),
+            settings,
+        )?;
         let Some(entry) = self.bounded() else {
             return Err(RigFault::LengthsOff);
         };
@@ -34,7 +39,11 @@ impl Draft {
 }
 
 /// The surcharges that a move may have beside the base.
-pub fn lawful_times(base: u16, charges: &[Charge], settings: &[u8]) -> Result<Short<Surcharge, MOST_SURCHARGES>, RigFault>
+pub fn lawful_times(
+    base: u16,
+    charges: &[Charge],
+    settings: &[u8],
+) -> Result<Short<Surcharge, MOST_SURCHARGES>, RigFault>
     ensures { λ r. ⌜ Judged (timing-checks (now (settings .entry)) base (charges-of (now (charges .entry)))) (λ xs. map surcharge-of (listed xs) ≡ charges-of (now (charges .entry))) r ⌝ }
 {
     judge_pairs(&[], &[], charges, settings)?;

@@ -29,5 +29,7 @@ pub fn shape_off(settings: &[u8]) -> bool
     ensures { λ r. ⌜ r ≡ is-shape-off (now (settings .entry)) ⌝ }
 {
     let devices = settings.len();
-    devices < 1 || devices > MOST_DEVICES || some_outside(LEAST_SETTINGS as u8, MOST_SETTINGS as u8, settings)
+    devices < 1
+        || devices > MOST_DEVICES
+        || some_outside(LEAST_SETTINGS as u8, MOST_SETTINGS as u8, settings)
 }

@@ -23,16 +23,17 @@ above-in n (d ∷ ds) a c (inl h) = subst (λ (x : Check). n < x .number) (sym h
 above-in n (d ∷ ds) a c (inr h) = let more = above-in (d .number) ds (a .1) c h in omega (arith, a .0, more)
 
 module _ {T : Type 0} (x : T) where
-
   -- one check before others, by whether it holds
   by : (n : ℕ) (b : Bool) (cs : List Check) → Above n cs → (r : Result T ℕ) → Smallest cs r → Smallest (refuse n b ∷ cs) (cond b (Err n) r)
-  by n true cs a r s =
-      ( (refuse n true, inl refl, refl, refl)
-      , λ c i h. elim i [ inl e ↦ subst (λ (k : Check). n ≤ k .number) (sym e) (omega arith) | inr j ↦ (let more = above-in n cs a c j in omega arith) ])
+  by n true cs a r s = (
+    (refuse n true, inl refl, refl, refl),
+    λ c i h. elim i [ inl e ↦ subst (λ (k : Check). n ≤ k .number) (sym e) (omega arith) | inr j ↦ (let more = above-in n cs a c j in omega arith) ],
+  )
   by n false cs a (Ok y) s = λ c i. elim i [ inl e ↦ ap (λ (k : Check). k .holds) e | inr j ↦ s c j ]
-  by n false cs a (Err k) s =
-      ( (s .0 .0, inr (s .0 .1), s .0 .2, s .0 .3)
-      , λ c i h. elim i [ inl e ↦ absurd (false≢true (sym (ap (λ (k : Check). k .holds) e) ∙ h)) | inr j ↦ s .1 c j h ])
+  by n false cs a (Err k) s = (
+    (s .0 .0, inr (s .0 .1), s .0 .2, s .0 .3),
+    λ c i h. elim i [ inl e ↦ absurd (false≢true (sym (ap (λ (k : Check). k .holds) e) ∙ h)) | inr j ↦ s .1 c j h ],
+  )
 
   pub smallest : (n : ℕ) (cs : List Check) → Above n cs → Smallest cs (answer cs x)
   smallest n [] a = λ c i. elim i [ ]

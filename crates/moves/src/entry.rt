@@ -1,5 +1,5 @@
-use lists::limits::*;
 use crate::pair::*;
+use lists::limits::*;
 use lists::short::Short;
 use lists::short::ShortClone;
 

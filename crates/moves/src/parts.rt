@@ -6,8 +6,8 @@ ghost use Rattle.moves.specs.Views.{pairs-of, surcharge-of, move-of};
 ghost use Rattle.model.specs.Calls.{retiming};
 use crate::entry::Move;
 use crate::entry::Surcharge;
-use lists::limits::*;
 use crate::pair::Pair;
+use lists::limits::*;
 use lists::short::Short;
 
 impl Surcharge {
@@ -31,10 +31,20 @@ impl Surcharge {
 }
 
 impl Move {
-    pub fn new(conditions: Short<Pair, MOST_CONDITIONS>, effects: Short<Pair, MOST_EFFECTS>, base: u16, surcharges: Short<Surcharge, MOST_SURCHARGES>) -> Move
+    pub fn new(
+        conditions: Short<Pair, MOST_CONDITIONS>,
+        effects: Short<Pair, MOST_EFFECTS>,
+        base: u16,
+        surcharges: Short<Surcharge, MOST_SURCHARGES>,
+    ) -> Move
         ensures { λ r. ⌜ move-of r ≡ record { conditions = pairs-of (listed conditions); effects = pairs-of (listed effects); base = base; surcharges = map surcharge-of (listed surcharges) } ⌝ }
     {
-        Move { conditions, effects, base, surcharges }
+        Move {
+            conditions,
+            effects,
+            base,
+            surcharges,
+        }
     }
 
     pub fn conditions(&self) -> &[Pair]

@@ -5,10 +5,10 @@ ghost use mathlib.Core.Path.{_≡_};
 ghost use Rattle.lists.specs.Shorts.{listed};
 ghost use Rattle.model.specs.Moves.{holds as holds-in, all-hold, charged, time as time-of, applied};
 ghost use Rattle.moves.specs.Views.{pair-of, pairs-of, surcharge-of, move-of};
-use lists::limits::*;
 use crate::entry::Move;
 use crate::entry::Surcharge;
 use crate::pair::Pair;
+use lists::limits::*;
 use lists::short::Short;
 
 impl Pair {
@@ -39,7 +39,11 @@ impl Surcharge {
         ensures value { λ r. ⌜ r ≡ charged (now (scene .entry)) (surcharge-of (now (self .entry))) ⌝ }
         ensures bound { λ r. ⌜ r ≤ 65535 ⌝ }
     {
-        if every_holds(self.tests.as_slice(), scene) { u32::from(self.extra) } else { 0 }
+        if every_holds(self.tests.as_slice(), scene) {
+            u32::from(self.extra)
+        } else {
+            0
+        }
     }
 }
 

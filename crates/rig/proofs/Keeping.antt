@@ -32,7 +32,7 @@ pub slots-set : (ns : Shape) (n : ℕ) (xs : List (Option Move)) (i : ℕ) (o : 
 slots-set ns n xs i o whole h e k lt =
     ⊎-elim
     (λ same. subst (λ (j : ℕ). lawful-slot ns (slot-of (getD (set xs j o) k None)) ≡ true) same
-      (ap (λ (p : Option Move). lawful-slot ns (slot-of p)) (getD-set-same xs k o None (omega arith)) ∙ e))
+    (ap (λ (p : Option Move). lawful-slot ns (slot-of p)) (getD-set-same xs k o None (omega arith)) ∙ e))
     (λ other. ap (λ (p : Option Move). lawful-slot ns (slot-of p)) (getD-set-other xs i k o None other) ∙ h k lt)
     (cases-eq k i)
 

@@ -18,7 +18,7 @@ use Rattle.moves.specs.Views.{slot-of}
 use Rattle.rig.proofs.Keeping.{Slots-lawful, slots-set}
 
 module _ (v : Vec (Option Move) Global) (lent ws : List (Option Move)) (n : ℕ) (o : Option Move)
-  (value : lent ≡ vec-items v) (len : length ws ≡ vec-len v) (put : ws ≡ set lent n o) where
+    (value : lent ≡ vec-items v) (len : length ws ≡ vec-len v) (put : ws ≡ set lent n o) where
   pub slot-written : vec-items (refilled v ws) ≡ set (vec-items v) n o
   slot-written = refilled-is v ws len ∙ put ∙ ap (λ (l : List (Option Move)). set l n o) value
 

@@ -4,12 +4,12 @@ ghost use Rattle.model.specs.Calls.{adds, added, retimes, retimed};
 ghost use Rattle.moves.specs.Faults.{numbered};
 ghost use Rattle.rig.specs.Rigs.{contents};
 ghost use Rattle.drafts.specs.Drafts.{charges-of, draft-of};
+use crate::frame::Rig;
+use crate::slots::*;
 use drafts::draft::Charge;
 use drafts::draft::Draft;
-use moves::fault::RigFault;
-use crate::frame::Rig;
 use drafts::lawful::lawful_times;
-use crate::slots::*;
+use moves::fault::RigFault;
 
 impl Rig {
     /// Puts a move into the vacant slot that the caller numbers.

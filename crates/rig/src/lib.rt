@@ -2,11 +2,11 @@
 pub mod devices;
 pub mod edit;
 pub mod frame;
+mod masks;
 pub mod open;
+mod opening;
 pub mod perform;
+mod slots;
 pub mod unopened;
 pub mod view;
 pub mod want;
-mod masks;
-mod opening;
-mod slots;

@@ -8,12 +8,12 @@ ghost use Rattle.model.specs.Limits.{outside, least-byte, most-byte};
 ghost use Rattle.model.specs.Lists.{some, some-two};
 ghost use Rattle.model.specs.Calls.{counts-off as are-counts-off, opens};
 ghost use Rattle.moves.specs.Faults.{numbered};
+use lists::counts::*;
+use lists::limits::*;
 use lists::names::Name;
 use lists::names::NameKeyed;
-use moves::fault::RigFault;
-use lists::limits::*;
-use lists::counts::*;
 use lists::repeats::first_repeat;
+use moves::fault::RigFault;
 
 /// Whether a name has a byte that is not printable.
 fn some_name_off(names: &[Name]) -> bool
@@ -48,7 +48,12 @@ fn counts_off(settings: &[u8], names: &[Name], scene: &[u8]) -> bool
 }
 
 /// The smallest refusal of an opening that holds.
-pub(crate) fn judge_opening(settings: &[u8], names: &[Name], scene: &[u8], slots: usize) -> Result<(), RigFault>
+pub(crate) fn judge_opening(
+    settings: &[u8],
+    names: &[Name],
+    scene: &[u8],
+    slots: usize,
+) -> Result<(), RigFault>
     ensures { λ r. ⌜ numbered r ≡ opens (now (settings .entry)) (now (names .entry)) (now (scene .entry)) slots ⌝ }
 {
     if counts_off(settings, names, scene) {

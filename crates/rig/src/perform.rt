@@ -3,10 +3,10 @@ ghost use mathlib.Core.Path.{_≡_};
 ghost use Rattle.model.specs.Calls.{withdraws, withdrawn, performs, performed, Moved, looks};
 ghost use Rattle.moves.specs.Faults.{numbered};
 ghost use Rattle.rig.specs.Rigs.{contents};
-use moves::fault::RigFault;
 use crate::frame::Rig;
-use moves::scene::*;
 use crate::slots::*;
+use moves::fault::RigFault;
+use moves::scene::*;
 
 impl Rig {
     /// Carries out a move whose conditions hold, and answers its time in tenths of a second.

@@ -7,11 +7,11 @@ ghost use Rattle.std.specs.declared.option.Option.the-variants.{None};
 ghost use Rattle.lists.specs.Shorts.{listed};
 ghost use Rattle.moves.specs.Views.{surcharge-of};
 ghost use Rattle.rig.specs.Slots.{in-use-at, vacant-at, Retimed};
-use moves::fault::RigFault;
 use lists::limits::*;
+use lists::short::Short;
 use moves::entry::Move;
 use moves::entry::Surcharge;
-use lists::short::Short;
+use moves::fault::RigFault;
 
 /// The move in a slot.
 pub(crate) fn occupied(slots: &[Option<Move>], number: usize) -> Result<Move, RigFault>
@@ -50,7 +50,12 @@ pub(crate) fn store(slots: &mut [Option<Move>], number: usize, entry: Option<Mov
 }
 
 /// Replaces the base and the surcharges of the move in a slot, if it has one.
-pub(crate) fn retime(slots: &mut [Option<Move>], number: usize, base: u16, surcharges: Short<Surcharge, MOST_SURCHARGES>)
+pub(crate) fn retime(
+    slots: &mut [Option<Move>],
+    number: usize,
+    base: u16,
+    surcharges: Short<Surcharge, MOST_SURCHARGES>,
+)
     requires { ⌜ number < length (now slots) ⌝ }
     ensures { λ _. ⌜ Retimed base (map surcharge-of (listed surcharges)) number (now (slots .entry)) (now (slots .exit)) ⌝ }
 {

@@ -4,10 +4,10 @@ ghost use Rattle.model.specs.Masks.{wanted};
 ghost use Rattle.model.specs.Calls.{wants, wanting, Counts-wanted};
 ghost use Rattle.moves.specs.Faults.{numbered};
 ghost use Rattle.rig.specs.Rigs.{contents};
-use moves::fault::RigFault;
 use crate::frame::Rig;
 use crate::masks::*;
 use lists::short::Short;
+use moves::fault::RigFault;
 
 impl Rig {
     /// Takes a mask for each device, and answers how many scenes are wanted.

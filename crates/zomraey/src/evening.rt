@@ -8,28 +8,37 @@ use std::alloc::Global;
 use std::error::AnyError;
 
 const LAMP: u8 = 0;
+
 const OFF: u8 = 0;
+
 const ON: u8 = 1;
 
 const SKY: u8 = 1;
+
 const DAY: u8 = 0;
+
 const DUSK: u8 = 1;
+
 const DARK: u8 = 2;
+
+fn at(device: u8, setting: u8) -> Pair {
+    Pair { device, setting }
+}
 
 /// A move of one device from one setting to another.
 fn plain(heap: Global, device: u8, from: u8, to: u8, base: u16) -> Result<Draft, AnyError> {
     Ok(Draft {
-        conditions: vec![in heap; Pair { device, setting: from }]?,
-        effects: vec![in heap; Pair { device, setting: to }]?,
+        conditions: vec![in heap; at(device, from)]?,
+        effects: vec![in heap; at(device, to)]?,
         base,
         surcharges: Vec::new(heap),
     })
 }
 
-/// The same with an extra time while the lamp is on.
-fn slower_when_lit(heap: Global, draft: Draft, extra: u16) -> Result<Draft, AnyError> {
-    let tests = vec![in heap; Pair { device: LAMP, setting: ON }]?;
-    let mut draft = draft;
+/// A move of the sky, with an extra time while the lamp is on.
+fn of_sky(heap: Global, from: u8, to: u8, base: u16, extra: u16) -> Result<Draft, AnyError> {
+    let mut draft = plain(heap, SKY, from, to, base)?;
+    let tests = vec![in heap; at(LAMP, ON)]?;
     draft.surcharges.push(Charge { tests, extra })?;
     Ok(draft)
 }
@@ -42,9 +51,9 @@ pub(crate) fn open(heap: Global) -> Result<Rig, AnyError> {
         Err(refused) => return Err(refused.fault.into()),
     };
     rig.add(0, &plain(heap, LAMP, ON, OFF, 15)?)?;
-    rig.add(1, &slower_when_lit(heap, plain(heap, SKY, DAY, DUSK, 20)?, 30)?)?;
-    rig.add(2, &slower_when_lit(heap, plain(heap, SKY, DUSK, DARK, 20)?, 40)?)?;
-    rig.add(3, &slower_when_lit(heap, plain(heap, SKY, DAY, DARK, 40)?, 50)?)?;
+    rig.add(1, &of_sky(heap, DAY, DUSK, 20, 30)?)?;
+    rig.add(2, &of_sky(heap, DUSK, DARK, 20, 40)?)?;
+    rig.add(3, &of_sky(heap, DAY, DARK, 40, 50)?)?;
     let _ = rig.want(&[0b011, 0b100])?;
     Ok(rig)
 }

@@ -28,7 +28,11 @@ fn play(rt: &LibcRuntime) -> Result<(), AnyError> {
     let mut rig = evening::open(rt.alloc())?;
     look(rt, &rig)?;
     perform(rt, &mut rig)?;
-    println!(rt, "{}", if rig.is_wanted() { "wanted" } else { "not wanted" })?;
+    if rig.is_wanted() {
+        println!(rt, "wanted")?;
+    } else {
+        println!(rt, "not wanted")?;
+    }
     Ok(())
 }
 

@@ -34,6 +34,7 @@ returns c =
     let tests = c .args .self .now .tests in
     let some = eqb-false (vec-len tests) 0 (sym (c .if-is-empty .ensures tt)) in
     let few : length (c .as-slice .result .now) ≤ most-tests = c .in-Continue-tests .ensures tt .1 in
-    let whole = c .in-Continue-tests .ensures tt .0 ∙ c .as-slice .ensures .value in
-    ( seen-within pair-of 1 most-tests (vec-items tests) (omega (arith, tests .ok .0)) (rw (c .as-slice .ensures .value) at few)
-    , c .new .ensures ∙ ap (λ (ps : List Pair). seen ps (c .args .self .now .extra)) whole)
+    let whole = c .in-Continue-tests .ensures tt .0 ∙ c .as-slice .ensures .value in (
+      seen-within pair-of 1 most-tests (vec-items tests) (omega (arith, tests .ok .0)) (rw (c .as-slice .ensures .value) at few),
+      c .new .ensures ∙ ap (λ (ps : List Pair). seen ps (c .args .self .now .extra)) whole,
+    )

@@ -52,8 +52,9 @@ returns c =
     let conditions = ap pairs-of (c .in-Continue-conditions .ensures tt .0 ∙ c .as-slice .ensures .value) in
     let effects = ap pairs-of (c .in-Continue-effects .ensures tt .0 ∙ c .as-slice-2 .ensures .value) in
     let charges = ap charges-of (c .as-slice-3 .ensures .value) in
-    let surcharges = c .in-Continue-surcharges .ensures tt .1 ∙ charges in
-    ( lengths-right (draft-of m) (rw seen (rw (c .as-slice .ensures .value) at few))
-      (seen-within pair-of 1 most-effects (vec-items (m .effects)) (omega (arith, m .effects .ok .0)) (rw (c .as-slice-2 .ensures .value) at few-effects))
-      (ap surcharges-off (sym charges) ∙ c .in-Continue-surcharges .ensures tt .0)
-    , c .new .ensures ∙ same-parts _ _ _ _ (m .base) _ _ conditions effects surcharges)
+    let surcharges = c .in-Continue-surcharges .ensures tt .1 ∙ charges in (
+      lengths-right (draft-of m) (rw seen (rw (c .as-slice .ensures .value) at few))
+          (seen-within pair-of 1 most-effects (vec-items (m .effects)) (omega (arith, m .effects .ok .0)) (rw (c .as-slice-2 .ensures .value) at few-effects))
+          (ap surcharges-off (sym charges) ∙ c .in-Continue-surcharges .ensures tt .0),
+      c .new .ensures ∙ same-parts _ _ _ _ (m .base) _ _ conditions effects surcharges,
+    )

@@ -58,7 +58,7 @@ ghost-self c =
     let fits = c .in-Continue-entry .ensures tt in
     let law = move-lawful (c .as-slice-2 .result .now) (listed (s .devices .settings)) (draft-of (c .args .draft .now)) _ (c .as-slice-2 .ensures .value) (fits .1) (fits .0) in
     let slots = written-lawful (s .slots) (c .as-mut-slice .result .now) (c .store .last .slots) (c .args .number) (Some m) (c .as-mut-slice .ensures .value) len (c .store .ensures)
-      (listed (s .devices .settings)) (s .moves) law in
+    (listed (s .devices .settings)) (s .moves) law in
     (s .opened, (s .wanted, (slots, tt)))
 
 pub returns : need.returns

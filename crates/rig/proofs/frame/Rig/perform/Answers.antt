@@ -48,7 +48,7 @@ ghost-self c =
     let holds = said-of (c .as-slice-2 .result .now) (listed (s .devices .scene)) (c .conditions .result .now) (move-of m .conditions) true (c .as-slice-2 .ensures .value) (c .conditions .ensures) (c .if-not-every-holds .ensures tt) in
     let law = lawful-met (contents s) (c .as-slice .result .now) seen n m (c .in-Continue-entry .ensures tt) holds (lawful-rig s) in
     let new : listed (c .apply .last .scene) ≡ applied (move-of m .effects) (listed (s .devices .scene)) =
-      c .apply .ensures ∙ ap (λ (ps : List model.Pair). applied ps (listed (s .devices .scene))) (c .effects .ensures) in
+    c .apply .ensures ∙ ap (λ (ps : List model.Pair). applied ps (listed (s .devices .scene))) (c .effects .ensures) in
     let law′ : Lawful (with-scene (contents s) (listed (c .apply .last .scene))) = subst (λ (t : Scene). Lawful (with-scene (contents s) t)) (sym new) law in
     (tt, (held-opens _ _ _ _ _ (vec-len (s .slots)) (s .slots .ok .0) law′, (s .wanted, (s .moves, tt))))
 
@@ -61,7 +61,7 @@ returns c =
     let holds = said-of (c .as-slice-2 .result .now) (listed (s .devices .scene)) (c .conditions .result .now) (move-of m .conditions) true (c .as-slice-2 .ensures .value) (c .conditions .ensures) (c .if-not-every-holds .ensures tt) in
     let e = c .in-Continue-entry .ensures tt in
     let new : listed (c .apply .last .scene) ≡ applied (move-of m .effects) (listed (s .devices .scene)) =
-      c .apply .ensures ∙ ap (λ (ps : List model.Pair). applied ps (listed (s .devices .scene))) (c .effects .ensures) in
+    c .apply .ensures ∙ ap (λ (ps : List model.Pair). applied ps (listed (s .devices .scene))) (c .effects .ensures) in
     let answer = ap Ok (c .time-time .ensures ∙ ap (time (move-of m)) (c .as-slice-3 .ensures .value)) ∙ sym (performs-met (contents s) (c .as-slice .result .now) seen n m e holds) in
     let left = ap (with-scene (contents s)) new ∙ sym (performed-met (contents s) (c .as-slice .result .now) seen n m e holds) in
     record { answer = answer; left = left; moved = moved (contents s) n (lawful-rig s) _ _ answer left }

@@ -85,5 +85,5 @@ returns c =
     let seen-so = new .seen ∙ ap (λ (zs : List model.Surcharge). in-slot (λ m. Some (retiming base zs m)) None (slot-of (getD lent n None))) (fits .1) in
     let slots = slot-seen-written (s .slots) lent (c .retime .last .slots) n (new .slot) (c .as-mut-slice .ensures .value) len (new .put) in
     let put = ap (set (contents s .slots) n) (seen-so
-      ∙ ap (in-slot (λ m. Some (retiming base ys m)) None) (sym (slot-seen (contents s) lent (ap (map slot-of) (sym (c .as-mut-slice .ensures .value))) n))) in
+    ∙ ap (in-slot (λ m. Some (retiming base ys m)) None) (sym (slot-seen (contents s) lent (ap (map slot-of) (sym (c .as-mut-slice .ensures .value))) n))) in
     record { answer = sym w; left = accepted-left (retimes (contents s) n base ys) _ (contents s) tt w _ (ap (with-slots (contents s)) (slots ∙ put)) }

@@ -41,7 +41,7 @@ ghost-self c =
     let s = c .args .self .now in
     let len : length (c .store .last .slots) ≡ vec-len (s .slots) = search needs in
     let slots = written-lawful (s .slots) (c .as-mut-slice .result .now) (c .store .last .slots) (c .args .number) None (c .as-mut-slice .ensures .value) len (c .store .ensures)
-      (listed (s .devices .settings)) (s .moves) refl in
+    (listed (s .devices .settings)) (s .moves) refl in
     (s .opened, (s .wanted, (slots, tt)))
 
 pub returns : need.returns
