@@ -1,0 +1,8 @@
+//! Planning: the quickest run of moves to a wanted scene, found on a shelf of charts by value iteration.
+pub mod fault;
+pub mod hanging;
+pub mod halt;
+mod blocks;
+mod dials;
+mod hang;
+mod rounds;
