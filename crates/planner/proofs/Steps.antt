@@ -24,7 +24,7 @@ pub record Onward (start : Meaning) (all : List Step) (m : Meaning) (rest : List
 pub onward-none : (m : Meaning) (xs : List Step) → Onward m xs m xs
 onward-none m xs = record { answer = refl; left = refl }
 
-err-is-not-ok : {X E : Type 0} (e : E) (x : X) → Err e ≡ Ok x → ⊥
+pub err-is-not-ok : {X E : Type 0} (e : E) (x : X) → Err e ≡ Ok x → ⊥
 err-is-not-ok e x h = let z : _≡_ {A = ℕ} 0 1 = cc in absurd (omega arith)
 
 -- steps that are all accepted, and more steps

@@ -5,4 +5,5 @@ pub mod halt;
 mod blocks;
 mod dials;
 mod hang;
+mod iterate;
 mod rounds;
