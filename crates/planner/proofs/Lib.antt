@@ -6,3 +6,5 @@ pub mod OfRounds
 pub mod Leaving
 pub mod Going
 pub mod Beginning
+pub mod Striding
+pub mod OfWalks

@@ -1,3 +1,4 @@
 pub mod Faults
 pub mod Ends
 pub mod Rounds
+pub mod Walking

@@ -6,4 +6,7 @@ mod blocks;
 mod dials;
 mod hang;
 mod iterate;
+mod point;
 mod rounds;
+mod taken;
+mod walk;
