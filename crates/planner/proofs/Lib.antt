@@ -8,3 +8,5 @@ pub mod Going
 pub mod Beginning
 pub mod Striding
 pub mod OfWalks
+pub mod Ruled
+pub mod Outcomes
