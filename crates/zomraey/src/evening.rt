@@ -1,11 +1,25 @@
-//! The worked evening: a lamp and a sky, and four moves that darken them.
+//! The worked evening: a lamp and a sky, four moves that darken them, and a plan of the quickest run.
 use drafts::draft::Charge;
 use drafts::draft::Draft;
+use flat::store::FlatShelf;
+use lists::limits::PEGS;
+use lists::names::Name;
 use moves::pair::Pair;
-use moves::words::RigFaultError;
-use rig::frame::Rig;
+use show::cue::Cue;
 use std::alloc::Global;
 use std::error::AnyError;
+
+/// The lamp has two settings, the sky three.
+pub(crate) const SETTINGS: [u8; 2] = [2, 3];
+
+pub(crate) const NAMES: [Name; 2] = [*b"LAMP    ", *b"SKY     "];
+
+/// The lamp is on, and it is day.
+pub(crate) const SCENE: [u8; 2] = [ON, DAY];
+
+pub(crate) const SLOTS: usize = 4;
+
+const SCENES: usize = 6;
 
 const LAMP: u8 = 0;
 
@@ -43,17 +57,28 @@ fn of_sky(heap: Global, from: u8, to: u8, base: u16, extra: u16) -> Result<Draft
     Ok(draft)
 }
 
-/// The rig at the start: the lamp is on, it is day, and any scene with a dark sky is wanted.
-pub(crate) fn open(heap: Global) -> Result<Rig, AnyError> {
-    let slots = vec![in heap; None; 4]?;
-    let mut rig = match Rig::open(&[2, 3], &[*b"LAMP    ", *b"SKY     "], &[ON, DAY], slots) {
-        Ok(rig) => rig,
-        Err(refused) => return Err(refused.fault.into()),
-    };
-    rig.add(0, &plain(heap, LAMP, ON, OFF, 15)?)?;
-    rig.add(1, &of_sky(heap, DAY, DUSK, 20, 30)?)?;
-    rig.add(2, &of_sky(heap, DUSK, DARK, 20, 40)?)?;
-    rig.add(3, &of_sky(heap, DAY, DARK, 40, 50)?)?;
-    let _ = rig.want(&[0b011, 0b100])?;
-    Ok(rig)
+fn add(number: usize, draft: Draft) -> Cue<FlatShelf> {
+    Cue::Add { number, draft, reply: None }
+}
+
+/// A plan on a flat shelf, with room for sixteen moves.
+fn plan(heap: Global) -> Result<Cue<FlatShelf>, AnyError> {
+    let cells = vec![in heap; None; PEGS * SCENES]?;
+    let sheet = vec![in heap; 0u8; 16]?;
+    match FlatShelf::open(&SETTINGS, cells) {
+        Ok(shelf) => Ok(Cue::Plan { shelf, sheet, reply: None }),
+        Err(_) => Err("the shelf of the evening does not open".into()),
+    }
+}
+
+/// The calls of the evening: four moves, any scene with a dark sky is wanted, and a plan.
+pub(crate) fn cues(heap: Global) -> Result<Vec<Cue<FlatShelf>>, AnyError> {
+    let mut cues = Vec::new(heap);
+    cues.push(add(0, plain(heap, LAMP, ON, OFF, 15)?))?;
+    cues.push(add(1, of_sky(heap, DAY, DUSK, 20, 30)?))?;
+    cues.push(add(2, of_sky(heap, DUSK, DARK, 20, 40)?))?;
+    cues.push(add(3, of_sky(heap, DAY, DARK, 40, 50)?))?;
+    cues.push(Cue::Want { masks: vec![in heap; 0b011, 0b100]?, reply: None })?;
+    cues.push(plan(heap)?)?;
+    Ok(cues)
 }
