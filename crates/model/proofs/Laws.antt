@@ -1,9 +1,9 @@
 -- The first refusal of a rising list is the smallest. Assumes nothing.
 use Prim.Native.Nat.{ℕ, _<_, _≤_}
 use mathlib.Core.Path.{_≡_, refl, ap, sym, subst, _∙_}
-use mathlib.Core.Bool.{Bool, true, false, cond}
+use mathlib.Core.Bool.{Bool, true, false, cond, _||_}
 use mathlib.Core.Logic.{_⊎_, inl, inr}
-use mathlib.Core.List.{List, [], _∷_}
+use mathlib.Core.List.{List, [], _∷_, _++_}
 use native.Mathlib.Omega.{arith}
 use lib.Dec.{lit<, leb}
 use lib.ListN.{length}
@@ -13,7 +13,7 @@ use Rattle.std.proofs.shelf.Tests.{false≢true, true≢false}
 use Rattle.model.specs.Lists.{In}
 use Rattle.model.specs.Refusals.{Check, refuse, answer, Above, Smallest}
 use Rattle.model.specs.Calls.{open-checks, no-slot, in-use, vacant, unmet, move-checks, timing-checks, want-checks}
-use Rattle.model.specs.Shelves.{Call, call-checks, dial, cheaper, sum, put}
+use Rattle.model.specs.Shelves.{Meaning, Call, call-checks, scene-checks, high, bare, does, dial, cheaper, sum, put}
 use Rattle.model.specs.Smallest.{Rig-smallest, Shelf-smallest}
 
 -- every number of a list that rises above n is greater
@@ -51,8 +51,17 @@ rig-smallest =
       look = λ c v. smallest _ 0 (refuse 7 (leb (length (c .settings)) v) ∷ []) (lit< tt, tt);
     }
 
+hung-smallest : (m : Meaning) (c : Call) → Smallest (call-checks m c) (does m c)
+hung-smallest m (dial t v es) = smallest tt 0 (call-checks m (dial t v es)) (lit< tt, (lit< tt, (lit< tt, (lit< tt, tt))))
+hung-smallest m (cheaper t a b) = smallest tt 0 (call-checks m (cheaper t a b)) (lit< tt, (lit< tt, (lit< tt, tt)))
+hung-smallest m (sum t a b) = smallest tt 0 (call-checks m (sum t a b)) (lit< tt, (lit< tt, (lit< tt, (lit< tt, tt))))
+hung-smallest m (put t a v d) = smallest tt 0 (call-checks m (put t a v d)) (lit< tt, (lit< tt, (lit< tt, (lit< tt, (lit< tt, tt)))))
+
 pub shelf-smallest : Shelf-smallest
-shelf-smallest m (dial t v es) = smallest tt 0 (call-checks m (dial t v es)) (lit< tt, (lit< tt, (lit< tt, (lit< tt, tt))))
-shelf-smallest m (cheaper t a b) = smallest tt 0 (call-checks m (cheaper t a b)) (lit< tt, (lit< tt, (lit< tt, tt)))
-shelf-smallest m (sum t a b) = smallest tt 0 (call-checks m (sum t a b)) (lit< tt, (lit< tt, (lit< tt, (lit< tt, tt))))
-shelf-smallest m (put t a v d) = smallest tt 0 (call-checks m (put t a v d)) (lit< tt, (lit< tt, (lit< tt, (lit< tt, (lit< tt, tt)))))
+shelf-smallest =
+    record {
+      hang = hung-smallest;
+      wipe = λ m p. smallest tt 0 (refuse 14 (high p) ∷ []) (lit< tt, tt);
+      same = λ m a b. smallest _ 0 (refuse 14 (high a || high b) ∷ refuse 15 (bare (m .pegs) a || bare (m .pegs) b) ∷ []) (lit< tt, (lit< tt, tt));
+      at = λ m p s. smallest _ 0 (scene-checks (m .shape) s ++ (refuse 14 (high p) ∷ refuse 15 (bare (m .pegs) p) ∷ [])) (lit< tt, (lit< tt, (lit< tt, (lit< tt, tt))));
+    }

@@ -9,7 +9,7 @@ use Rattle.model.specs.Scenes.{Shape, Scene}
 use Rattle.model.specs.Moves.{Surcharge, Move}
 use Rattle.model.specs.Contents.{Contents, Name}
 use Rattle.model.specs.Calls.{open-checks, opens, no-slot, in-use, vacant, unmet, move-checks, timing-checks, adds, retimes, withdraws, performs, want-checks, wants, looks}
-use Rattle.model.specs.Shelves.{Meaning, Call, call-checks, does}
+use Rattle.model.specs.Shelves.{Meaning, Call, call-checks, scene-checks, high, bare, does, wipes, compares, reads}
 
 -- the calls on a rig
 pub record Rig-smallest : Type 0 where
@@ -21,6 +21,9 @@ pub record Rig-smallest : Type 0 where
   pub want : (c : Contents) (ms : List ℕ) → Smallest (want-checks (c .settings) ms) (wants c ms)
   pub look : (c : Contents) (v : ℕ) → Smallest (refuse 7 (leb (length (c .settings)) v) ∷ []) (looks c v)
 
--- the calls that hang a chart on a shelf
-abbrev pub Shelf-smallest : Type 0
-Shelf-smallest = (m : Meaning) (c : Call) → Smallest (call-checks m c) (does m c)
+-- the calls of a shelf
+pub record Shelf-smallest : Type 0 where
+  pub hang : (m : Meaning) (c : Call) → Smallest (call-checks m c) (does m c)
+  pub wipe : (m : Meaning) (p : ℕ) → Smallest (refuse 14 (high p) ∷ []) (wipes m p)
+  pub same : (m : Meaning) (a b : ℕ) → Smallest (refuse 14 (high a || high b) ∷ refuse 15 (bare (m .pegs) a || bare (m .pegs) b) ∷ []) (compares m a b)
+  pub at : (m : Meaning) (p : ℕ) (s : Scene) → Smallest (scene-checks (m .shape) s ++ (refuse 14 (high p) ∷ refuse 15 (bare (m .pegs) p) ∷ [])) (reads m p s)
