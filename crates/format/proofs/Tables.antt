@@ -39,3 +39,15 @@ placed-behind n done (Some m ∷ slots) l =
 
 pub placed-back : Placed-back
 placed-back slots = placed-behind 0 [] slots refl
+
+-- one slot before others
+pub entries-first : (n : ℕ) (o : Option Move) (slots : List (Option Move)) → entries n (o ∷ slots) ≡ entries n (o ∷ []) ++ entries (n + 1) slots
+entries-first n None slots = refl
+entries-first n (Some m) slots = refl
+
+pub entries-append : (n : ℕ) (xs ys : List (Option Move)) → entries n (xs ++ ys) ≡ entries n xs ++ entries (n + length xs) ys
+entries-append n [] ys = ap (λ (k : ℕ). entries k ys) (omega arith)
+entries-append n (None ∷ xs) ys = entries-append (n + 1) xs ys ∙ ap (λ (k : ℕ). entries (n + 1) xs ++ entries k ys) (omega arith)
+entries-append n (Some m ∷ xs) ys =
+    let e : Entry = record { number = n; move = m } in
+    ap (λ (es : List Entry). e ∷ es) (entries-append (n + 1) xs ys ∙ ap (λ (k : ℕ). entries (n + 1) xs ++ entries k ys) (omega arith))

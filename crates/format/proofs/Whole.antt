@@ -53,7 +53,7 @@ one-reading k l a b e =
     λ i. record { settings = p .0 i; names = p .1 i; scene = q .0 i; masks = r .0 i; moves = s .0 i }
 
 -- a rig has as many names as devices, and not too many slots
-as-many-names : (c : Contents) → Lawful c → length (c .names) ≡ length (c .settings)
+pub as-many-names : (c : Contents) → Lawful c → length (c .names) ≡ length (c .settings)
 as-many-names c h =
     let checks = no-refusal (open-checks (c .settings) (c .names) (c .scene) (length (c .slots))) (h .opens) in
     let one : counts-off (c .settings) (c .names) (c .scene) ≡ false = checks .0 in
@@ -61,7 +61,7 @@ as-many-names c h =
     let lists = or-parts (not (eqb (length (c .names)) (length (c .settings)))) _ (counts .1) in
     eqb-true (length (c .names)) (length (c .settings)) (not-false _ (lists .0))
 
-few-slots : (c : Contents) → Lawful c → length (c .slots) ≤ most-slots
+pub few-slots : (c : Contents) → Lawful c → length (c .slots) ≤ most-slots
 few-slots c h =
     let checks = no-refusal (open-checks (c .settings) (c .names) (c .scene) (length (c .slots))) (h .opens) in
     let three : outside 1 most-slots (length (c .slots)) ≡ false = checks .1 .1 .0 in

@@ -48,11 +48,13 @@ devices (n ∷ ns) (name ∷ names) = n ∷ (name ++ devices ns names)
 abbrev pub body : Listing → List ℕ
 body l = devices (l .settings) (l .names) ++ (l .scene ++ (l .masks ++ joined entry (l .moves)))
 
--- version, device count, move count, zero byte; the offsets of devices, scene and moves, the total length; the parts
+-- of n devices and m moves in so many bytes: version, device count, move count, zero byte; the offsets of devices,
+-- scene and moves, the total length
+abbrev pub header : ℕ → ℕ → ℕ → List ℕ
+header n m total = 1 ∷ n ∷ m ∷ 0 ∷ (two 12 ++ (two (12 + 9 * n) ++ (two (12 + 11 * n) ++ two total)))
+
 abbrev pub bytes : Listing → List ℕ
-bytes l =
-    1 ∷ length (l .settings) ∷ length (l .moves) ∷ 0
-    ∷ (two 12 ++ (two (12 + 9 * length (l .settings)) ++ (two (12 + 11 * length (l .settings)) ++ (two (12 + length (body l)) ++ body l))))
+bytes l = header (length (l .settings)) (length (l .moves)) (12 + length (body l)) ++ body l
 
 -- the numbers rise strictly, from low on
 abbrev pub Rising : ℕ → List Entry → Type 0
