@@ -5,6 +5,7 @@ ghost use Rattle.model.specs.Calls.{Lawful};
 ghost use Rattle.moves.specs.Views.{slot-of};
 ghost use Rattle.rig.specs.Rigs.{contents};
 use crate::frame::Rig;
+use lists::names::Name;
 use moves::entry::Move;
 
 impl Rig {
@@ -14,6 +15,13 @@ impl Rig {
         ensures lawful { λ _. ⌜ Lawful (contents (now (self .entry))) ⌝ }
     {
         self.devices.settings.as_slice()
+    }
+
+    /// The name of each device: eight bytes.
+    pub fn names(&self) -> &[Name]
+        ensures { λ r. ⌜ now r ≡ contents (now (self .entry)) .names ⌝ }
+    {
+        self.devices.names.as_slice()
     }
 
     /// The present scene.

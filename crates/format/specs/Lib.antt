@@ -1,0 +1,4 @@
+pub mod Bytes
+pub mod Files
+pub mod Laws
+pub mod Evening
