@@ -2,7 +2,7 @@ ghost use mathlib.Core.Path.{_≡_};
 ghost use mathlib.Core.Bool.{false};
 ghost use Prim.Native.Nat.{_^_, _≤_};
 ghost use lib.ListN.{length};
-ghost use Rattle.model.specs.Limits.{outside, least-settings, most-settings};
+ghost use Rattle.model.specs.Limits.{outside, least-settings, most-settings, most-devices};
 ghost use Rattle.model.specs.Lists.{some};
 ghost use Rattle.model.specs.Refusals.{answer};
 ghost use Rattle.model.specs.Scenes.{shape-off, size, rank};
@@ -18,7 +18,8 @@ fn some_off(settings: &[u8]) -> bool
     ensures value { λ r. ⌜ r ≡ some (outside least-settings most-settings) (now (settings .entry)) ⌝ }
 {
     for count in settings {
-        if *count < LEAST_SETTINGS || *count > MOST_SETTINGS {
+        let n = *count as usize;
+        if n < LEAST_SETTINGS || n > MOST_SETTINGS {
             return true;
         }
     }
@@ -34,10 +35,10 @@ pub fn counts_off(settings: &[u8]) -> bool
 
 /// How many scenes devices with these counts of settings have.
 pub fn scenes(settings: &[u8]) -> usize
-    requires few { ⌜ length (now settings) ≤ 12 ⌝ }
+    requires few { ⌜ length (now settings) ≤ most-devices ⌝ }
     requires legal { ⌜ some (outside least-settings most-settings) (now settings) ≡ false ⌝ }
     ensures value { λ r. ⌜ r ≡ size (now (settings .entry)) ⌝ }
-    ensures bound { λ r. ⌜ r ≤ 8 ^ 12 ⌝ }
+    ensures bound { λ r. ⌜ r ≤ most-settings ^ most-devices ⌝ }
 {
     let mut product = 1;
     for count in settings {
@@ -48,7 +49,7 @@ pub fn scenes(settings: &[u8]) -> usize
 
 /// The place of a scene among all of them, device 0 slowest.
 pub fn place(settings: &[u8], scene: &[u8]) -> Result<usize, ShelfFault>
-    requires few { ⌜ length (now settings) ≤ 12 ⌝ }
+    requires few { ⌜ length (now settings) ≤ most-devices ⌝ }
     requires legal { ⌜ some (outside least-settings most-settings) (now settings) ≡ false ⌝ }
     ensures answer { λ r. ⌜ numbered r ≡ answer (scene-checks (now (settings .entry)) (now (scene .entry))) (rank (now (settings .entry)) (now (scene .entry))) ⌝ }
 {

@@ -4,4 +4,5 @@ pub mod counts;
 pub mod either;
 pub mod fault;
 pub mod limits;
+pub mod shape;
 pub mod sides;
