@@ -95,9 +95,6 @@ false-is-not-true b e f = let z : _≡_ {A = Bool} false true = sym e ∙ f in l
 
 module _ (c : Contents) (law : Lawful c) {start m : Meaning} (long : length (m .pegs) ≡ peg-count) (n : ℕ) (g : Going c start m n)
     (slots : List (Option model.Move)) (e : slots ≡ c .slots) where
-  here : List Step
-  here = round (n + 1) slots
-
   split : (ys : List Step) × (rounds-after c n ≡ round (n + 1) slots ++ ys)
   split = ⊎-elim
       (λ z. ([], last-round c n z ∙ ap (round (n + 1)) (sym e) ∙ sym (append-nil (round (n + 1) slots))))

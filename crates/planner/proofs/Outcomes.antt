@@ -71,14 +71,17 @@ fits-none m xs fits k =
 one-length : (c : Contents) (is js : List ℕ) (t u : ℕ) → Best c is t → Best c js u → length is ≡ length js
 one-length c is js t u a b = ap length (best-alike c c (alike-self c) is js t u a b .0)
 
-clash : {X : Type 0} {a b : X} → ((e : a ≡ b) → _≡_ {A = ℕ} 0 1) → a ≡ b → ⊥
-clash f e = let z : _≡_ {A = ℕ} 0 1 = f e in absurd (omega arith)
-
 numbers-clash : (a b : ℕ) → (a ≡ b → ⊥) → Some a ≡ Some b → ⊥
 numbers-clash a b f e = f (cc)
 
 never-number : (a : ℕ) → None ≡ Some a → ⊥
 never-number a e = let z : _≡_ {A = ℕ} 0 1 = cc in absurd (omega arith)
+
+short-is-not-17 : _≡_ {A = Option ℕ} (Some 19) (Some 17) → ⊥
+short-is-not-17 e = let z : _≡_ {A = ℕ} 19 17 = cc in absurd (omega arith)
+
+short-is-not-18 : _≡_ {A = Option ℕ} (Some 19) (Some 18) → ⊥
+short-is-not-18 e = let z : _≡_ {A = ℕ} 19 18 = cc in absurd (omega arith)
 
 never-none : (a : ℕ) → Some a ≡ None → ⊥
 never-none a e = never-number a (sym e)
@@ -168,19 +171,18 @@ module _ (c : Contents) (m : Meaning) (old : List ℕ) (same : m .shape ≡ c .s
 
   short-planned : (n : ℕ) (new : List ℕ) → Found c (cleared m) old (Err (SheetShort n)) new → Planned c m old (Err (SheetShort n)) (cleared m) new
   short-planned n new h =
-      let not-17 : Some 19 ≡ Some 17 → ⊥ = numbers-clash 19 17 (λ (e : 19 ≡ 17). omega (arith, e)) in
       record {
         way = λ i t s e. absurd (ok-is-not _ _ (sym e));
         no-way = λ e. absurd (never-none 19 e);
         rounds = λ s e. absurd (ok-is-not _ _ (sym e));
-        shapes = ((λ e. absurd (not-17 e)), λ differ. absurd (differ same));
-        room = ((λ e. absurd (numbers-clash 19 18 (λ z. omega arith) e)), λ x. absurd (fits-none (cleared m) (rule c) (h .0) (x .1)));
+        shapes = ((λ e. absurd (short-is-not-17 e)), λ differ. absurd (differ same));
+        room = ((λ e. absurd (short-is-not-18 e)), λ x. absurd (fits-none (cleared m) (rule c) (h .0) (x .1)));
         first = λ f g k o e. absurd (room-is-not f g k o n (sym e));
         sheet = ((λ _. (same, h .0, (n, h .1))), λ _. refl);
         needed = λ k e. subst (λ i. Short-for c i old) (sym (same-needed k n (sym e))) (h .1);
         others = λ i e. inr (inr (sym (number-is 19 i e)));
         pegs = λ _. refl;
-        untouched = λ e. absurd (not-17 e);
+        untouched = λ e. absurd (short-is-not-17 e);
         kept = λ _. h .2;
       }
     where

@@ -59,9 +59,6 @@ some-is : {X : Type 0} (x y : X) → Some x ≡ Some y → x ≡ y
 some-is x y e = cc
 
 module _ (c : Contents) (m : Meaning) (ready : Ready c m) (p : Point) (stands : Stands c m p) (a : model.Move) (law : Lawful-move (c .settings) a) where
-  s : Scene
-  s = listed (p .scene)
-
   abbrev v : Scene → Time
   v = first-peg c m
 

@@ -13,6 +13,7 @@ use moves::entry::Move;
 use moves::entry::Surcharge;
 use moves::pair::Pair;
 use shelf::calls::Shelf;
+use lists::limits::MOST_SETTINGS;
 
 /// Puts each effect on peg 2, in order.
 fn effected<S: Shelf>(shelf: &mut S, effects: &[Pair], round: u64) -> Result<(), Halt>
@@ -25,7 +26,7 @@ fn effected<S: Shelf>(shelf: &mut S, effects: &[Pair], round: u64) -> Result<(),
 }
 
 /// Adds entries of a device to a peg, by way of peg 3.
-pub(crate) fn add_dial<S: Shelf>(shelf: &mut S, target: u8, device: u8, entries: [Option<u64>; 8], round: u64) -> Result<(), Halt>
+pub(crate) fn add_dial<S: Shelf>(shelf: &mut S, target: u8, device: u8, entries: [Option<u64>; MOST_SETTINGS], round: u64) -> Result<(), Halt>
     ensures ended { λ r. ⌜ Hung (meaning (now (shelf .entry))) round (a-dial 3 device entries ∷ a-sum target target 3 ∷ []) r (meaning (now (shelf .exit))) ⌝ }
 {
     hang(shelf, Hanging::Dial { target: 3, device, entries }, round)?;
@@ -44,7 +45,7 @@ fn conditioned<S: Shelf>(shelf: &mut S, conditions: &[Pair], round: u64) -> Resu
 }
 
 /// Lowers peg 3 to entries of a device where they are less, by way of peg 4.
-fn lower_dial<S: Shelf>(shelf: &mut S, device: u8, entries: [Option<u64>; 8], round: u64) -> Result<(), Halt>
+fn lower_dial<S: Shelf>(shelf: &mut S, device: u8, entries: [Option<u64>; MOST_SETTINGS], round: u64) -> Result<(), Halt>
     ensures ended { λ r. ⌜ Hung (meaning (now (shelf .entry))) round (a-dial 4 device entries ∷ a-cheaper 3 3 4 ∷ []) r (meaning (now (shelf .exit))) ⌝ }
 {
     hang(shelf, Hanging::Dial { target: 4, device, entries }, round)?;

@@ -2,14 +2,16 @@
 ghost use mathlib.Core.Path.{_≡_};
 ghost use Prim.Native.Nat.{_<_};
 ghost use Rattle.std.specs.declared.option.Option.the-variants.{Some};
+ghost use Rattle.model.specs.Limits.{most-settings};
 ghost use Rattle.rule.specs.Steps.{entry, entries, admitted as the-admitted};
+use lists::limits::MOST_SETTINGS;
 
 /// One entry at a setting, another elsewhere.
-pub(crate) fn only_at(setting: u8, there: Option<u64>, elsewhere: Option<u64>) -> [Option<u64>; 8]
+pub(crate) fn only_at(setting: u8, there: Option<u64>, elsewhere: Option<u64>) -> [Option<u64>; MOST_SETTINGS]
     ensures { λ r. ⌜ r ≡ entries (entry setting there elsewhere) ⌝ }
 {
-    let mut all = [elsewhere; 8];
-    if setting < 8 {
+    let mut all = [elsewhere; MOST_SETTINGS];
+    if (setting as usize) < MOST_SETTINGS {
         all[setting as usize] = there;
     }
     all
@@ -17,14 +19,14 @@ pub(crate) fn only_at(setting: u8, there: Option<u64>, elsewhere: Option<u64>) -
 
 /// 0 at a setting that a mask admits, never at another.
 fn admitted(mask: u8, setting: u8) -> Option<u64>
-    requires { ⌜ setting < 8 ⌝ }
+    requires { ⌜ setting < most-settings ⌝ }
     ensures { λ r. ⌜ r ≡ the-admitted mask setting ⌝ }
 {
     if (mask >> setting) % 2 == 1 { Some(0) } else { None }
 }
 
 /// 0 at the settings that a mask admits, never elsewhere.
-pub(crate) fn admitting(mask: u8) -> [Option<u64>; 8]
+pub(crate) fn admitting(mask: u8) -> [Option<u64>; MOST_SETTINGS]
     ensures { λ r. ⌜ r ≡ entries (the-admitted mask) ⌝ }
 {
     [
@@ -40,8 +42,8 @@ pub(crate) fn admitting(mask: u8) -> [Option<u64>; 8]
 }
 
 /// The same entry at every setting.
-pub(crate) fn throughout(time: u16) -> [Option<u64>; 8]
+pub(crate) fn throughout(time: u16) -> [Option<u64>; MOST_SETTINGS]
     ensures { λ r. ⌜ r ≡ entries (λ _. Some time) ⌝ }
 {
-    [Some(u64::from(time)); 8]
+    [Some(u64::from(time)); MOST_SETTINGS]
 }
