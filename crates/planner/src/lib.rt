@@ -10,5 +10,4 @@ mod hang;
 mod iterate;
 mod point;
 mod rounds;
-mod taken;
 mod walk;

@@ -16,11 +16,12 @@ ghost use Rattle.rig.specs.Rigs.{contents};
 ghost use Rattle.moves.specs.Views.{move-of, slot-of};
 ghost use Rattle.planner.specs.Walking.{first-peg, Ready, Stands, Led, Strides, Walked};
 use crate::point::*;
-use crate::taken::*;
 use lists::short::Short;
 use rig::frame::Rig;
 use lists::limits::MOST_DEVICES;
 use moves::entry::Move;
+use moves::scene::apply;
+use moves::scene::every_holds;
 use shelf::calls::Shelf;
 
 /// The time that peg 0 gives a scene, or none.
@@ -43,10 +44,10 @@ fn led_by_move<S: Shelf>(rig: &Rig, shelf: &S, point: &Point, entry: &Move) -> O
     ensures led { λ r. ⌜ Led (contents (now (rig .entry))) (meaning (now (shelf .entry))) (now (point .entry)) (Some (action-of (move-of (now (entry .entry))))) r ⌝ }
 {
     let scene = point.scene;
-    if !all_hold(entry.conditions(), scene.as_slice()) {
+    if !every_holds(entry.conditions(), scene.as_slice()) {
         return None;
     }
-    let time = time(entry, scene.as_slice());
+    let time = u64::from(entry.time(scene.as_slice()));
     if time > point.left {
         return None;
     }

@@ -16,7 +16,7 @@ time-from-requires g c κs =
     let m = g .S·Shelf .meaning (c .args .shelf .now) in
     let p = c .args .point .now in
     let a = move-of (c .args .entry .now) in
-    let met = said-of true (listed (p .scene)) (c .as-slice .result .now) (a .conditions) (pairs-of (c .conditions .result .now)) (c .as-slice .ensures .value) (c .conditions .ensures) (c .if-not-all-hold .ensures tt) in
+    let met = said-of true (listed (p .scene)) (c .as-slice .result .now) (a .conditions) (pairs-of (c .conditions .result .now)) (c .as-slice .ensures .value) (c .conditions .ensures) (c .if-not-every-holds .ensures tt) in
     let there = c .as-slice-3 .ensures .value ∙ c .apply .ensures ∙ ap (λ es. applied es (listed (p .scene))) (c .effects .ensures) in
     record { hung = c .pre .ready .hung; within = next-within-shelf rig m (c .pre .ready) p (c .pre .stands) a (c .pre .lawful) met (c .as-slice-3 .result .now) there }
 
@@ -27,11 +27,11 @@ returns-then-after-left g c =
     let p = c .args .point .now in
     let a = move-of (c .args .entry .now) in
     let s = listed (p .scene) in
-    let met = said-of true s (c .as-slice .result .now) (a .conditions) (pairs-of (c .conditions .result .now)) (c .as-slice .ensures .value) (c .conditions .ensures) (c .if-not-all-hold .ensures tt) in
+    let met = said-of true s (c .as-slice .result .now) (a .conditions) (pairs-of (c .conditions .result .now)) (c .as-slice .ensures .value) (c .conditions .ensures) (c .if-not-every-holds .ensures tt) in
     let next = applied (a .effects) s in
     let led : listed (c .apply .last .scene) ≡ next = c .apply .ensures ∙ ap (λ es. applied es s) (c .effects .ensures) in
-    let spent : c .time-time .result ≡ time a s = c .time-time .ensures ∙ ap (time a) (c .as-slice-2 .ensures .value) in
+    let spent : c .from-time .result ≡ time a s = c .from-time .ensures ∙ c .time .ensures ∙ ap (time a) (c .as-slice-2 .ensures .value) in
     let le : time a s ≤ p .left = omega (arith, spent, c .if-time-point .left) in
     let after = first-peg-is rig m (c .pre .ready) (c .as-slice-3 .result .now) next (Some (c .in-Some .after)) (c .as-slice-3 .ensures .value ∙ led) (c .in-Some .ensures tt .value) in
-    record { led = leads rig m (c .pre .ready) p (c .pre .stands) a (c .pre .lawful) met (record { scene = c .apply .last .scene; left = p .left - c .time-time .result }) led le
+    record { led = leads rig m (c .pre .ready) p (c .pre .stands) a (c .pre .lawful) met (record { scene = c .apply .last .scene; left = p .left - c .from-time .result }) led le
         (ap (λ t. p .left - t) spent) (after ∙ ap Some (c .if-after-left .taken)) }
