@@ -5,11 +5,17 @@ use crate::edge::EdgePartialEq;
 use crate::hash::mix;
 use table::entry::Entry;
 
-/// An operation whose results are remembered.
+/// An operation on the two entries of a scene.
 #[derive(Clone, Copy, PartialEq, Eq)]
-pub enum Operation {
+pub enum Op {
     Cheaper,
     Sum,
+}
+
+/// An operation whose results are remembered: two charts joined, or a chart once a device is at a setting.
+#[derive(Clone, Copy, PartialEq, Eq)]
+pub enum Operation {
+    Join(Op),
     Put(u8, u8),
 }
 
