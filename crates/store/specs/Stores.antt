@@ -20,7 +20,7 @@ abbrev pub none-edge : Edge
 none-edge = record { weight = None; child = 0 }
 
 abbrev pub node-in : Option Node → Node
-node-in None = record { level = 0; most = None; edges = [] }
+node-in None = record { level = 0; most = None; edges = replicate 8 none-edge }
 node-in (Some x) = x
 
 -- the node in a slot
