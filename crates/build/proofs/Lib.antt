@@ -5,3 +5,4 @@ pub mod Makes
 pub mod Steps
 pub mod Made
 pub mod Spreads
+pub mod Sides
