@@ -14,14 +14,15 @@ use Rattle.std.proofs.shelf.Lists.{getD-map}
 use Rattle.nodes.specs.declared.edge.Edge.{Edge}
 use Rattle.nodes.specs.declared.node.Node.{Node}
 use Rattle.model.specs.Charts.{Time, Chart, late}
-use Rattle.model.specs.Lists.{some}
-use Rattle.model.specs.Parts.{pieces}
+use Rattle.model.specs.Lists.{In, some}
+use Rattle.model.specs.Parts.{Part, parts, pieces}
 use Rattle.model.specs.Scenes.{Shape, size}
 use Rattle.parts.proofs.Pieces.{pieces-each, length-each}
 use Rattle.store.specs.Stores.{none-edge, chart, Fine}
+use Rattle.store.specs.Fillings.{Stuck}
 use Rattle.store.proofs.Canon.{knows}
-use Rattle.build.specs.Builds.{Ready, Kids, Grows, Partway, together, piece, spread-chart}
-use Rattle.build.proofs.Steps.{grows-none, partway-more, partway-kids, partway-all}
+use Rattle.build.specs.Builds.{Ready, Kids, Grows, Built, Partway, together, piece, spread-chart}
+use Rattle.build.proofs.Steps.{grows-none, grows-then, stuck-wider, piece-parts, partway-more, partway-kids, partway-all}
 
 pub counting-length : (a n : ℕ) → length (counting a n) ≡ n
 counting-length a zero = refl
@@ -84,3 +85,21 @@ module _ (nodes : List (Option Node)) (shape : Shape) (l : ℕ) (kid : Edge) (re
 
       pub spread-timely : some late (chart nodes (drop (l + 1) shape) kid) ≡ false → some late (together nodes shape l kids) ≡ false
       spread-timely h = ap (some late) spread-is ∙ some-joined late (λ _. chart nodes (drop (l + 1) shape) kid) (counting 0 (getD shape l 0)) (λ _. h)
+
+-- a kid is built, and then spread
+module _ (old mid new : List (Option Node)) (shape : Shape) (l : ℕ) (c : Chart) (ready : Ready old shape) (lt : l < length shape) (long : length c ≡ size (drop (l + 1) shape)) (g : Grows old mid shape (l + 1) c) where
+  kid-parts : (p : Part) → In p (parts (drop (l + 1) shape) (l + 1) c) → In p (parts (drop l shape) l (spread-chart shape l c))
+  kid-parts p h = piece-parts shape l (spread-chart shape l c) 0 p lt (ready .some l lt) (subst (λ d. In p (parts (drop (l + 1) shape) (l + 1) d)) (sym (piece-at shape l 0 (λ _. c) (λ _. long) (ready .some l lt))) h)
+
+  pub spread-none : Stuck mid shape (l + 1) c → Stuck mid shape l (spread-chart shape l c)
+  spread-none s = stuck-wider mid shape l (l + 1) (spread-chart shape l c) c kid-parts s
+
+  pub spread-early : Grows old mid shape l (spread-chart shape l c)
+  spread-early = grows-then old old mid shape l (l + 1) (spread-chart shape l c) c (ready .store) kid-parts (grows-none old shape l (spread-chart shape l c) ready) g
+
+  module _ (kid : Edge) (is : chart mid (drop (l + 1) shape) kid ≡ c) where
+    pub spread-grows : Grows mid new shape l (spread-chart shape l (chart mid (drop (l + 1) shape) kid)) → Grows old new shape l (spread-chart shape l c)
+    spread-grows h = grows-then old mid new shape l l (spread-chart shape l c) (spread-chart shape l c) (ready .store) (λ p i. i) spread-early (subst (λ d. Grows mid new shape l (spread-chart shape l d)) is h)
+
+    pub spread-built : (r : Option Edge) → Built new shape l (spread-chart shape l (chart mid (drop (l + 1) shape) kid)) r → Built new shape l (spread-chart shape l c) r
+    spread-built r b = subst (λ d. Built new shape l (spread-chart shape l d) r) is b

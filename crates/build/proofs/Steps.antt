@@ -50,7 +50,7 @@ pub grows-none : (nodes : List (Option Node)) (shape : Shape) (l : ℕ) (c : Cha
 grows-none nodes shape l c r = record { table = r .table; store = r .store; kept = λ k x p. p; grown = λ k x p. inl p; same = refl }
 
 pub ready-after : (old new : List (Option Node)) (shape : Shape) (l : ℕ) (c : Chart) → Ready old shape → Grows old new shape l c → Ready new shape
-ready-after old new shape l c r g = record { table = g .table; store = g .store; small = subst (λ n. n ≤ 65536) (sym (g .same)) (r .small); few = r .few; short = r .short }
+ready-after old new shape l c r g = record { table = g .table; store = g .store; small = subst (λ n. n ≤ 65536) (sym (g .same)) (r .small); some = r .some; few = r .few; short = r .short }
 
 -- charts with the same parts
 pub grows-alike : (old new : List (Option Node)) (shape : Shape) (l : ℕ) (c d : Chart) → parts (drop l shape) l c ≡ parts (drop l shape) l d → Grows old new shape l c → Grows old new shape l d

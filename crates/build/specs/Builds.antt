@@ -37,6 +37,7 @@ pub record Ready (nodes : List (Option Node)) (shape : Shape) : Type 0 where
   pub table : NodeTable nodes
   pub store : Store nodes shape
   pub small : length nodes ≤ 65536
+  pub some : (k : ℕ) → k < length shape → 1 ≤ getD shape k 0
   pub few : (k : ℕ) → getD shape k 0 ≤ 8
   pub short : length shape ≤ 12
 
