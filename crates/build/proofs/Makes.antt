@@ -54,7 +54,7 @@ highest-none nodes ns zero = refl
 highest-none nodes ns (suc n) = highest-none nodes ns n
 
 -- where no weight is a time there is no greatest time
-highest-never : (nodes : List (Option Node)) (ns : Shape) (es : List Edge) → lowest es ≡ None → highest nodes ns es ≡ None
+pub highest-never : (nodes : List (Option Node)) (ns : Shape) (es : List Edge) → lowest es ≡ None → highest nodes ns es ≡ None
 highest-never nodes ns [] h = refl
 highest-never nodes ns (e ∷ es) h = go (e .weight) h (highest-never nodes ns es)
   where
