@@ -1,3 +1,4 @@
 pub mod Takes
 pub mod Repeating
 pub mod Naming
+pub mod Loops

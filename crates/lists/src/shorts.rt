@@ -13,7 +13,10 @@ impl<T: Copy, const N: usize> Short<T, N> {
     pub fn new(fill: T) -> Self
         ensures { λ r. ⌜ listed r ≡ [] ⌝ }
     {
-        Short { items: [fill; N], len: 0 }
+        Short {
+            items: [fill; N],
+            len: 0,
+        }
     }
 
     /// The items of a slice, or nothing where there are more than `N`.

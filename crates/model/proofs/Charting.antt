@@ -1,25 +1,18 @@
 -- The laws of entries and charts. Assumes nothing.
-use mathlib.Core.Path.{_≡_, refl, sym, ap, ap₂, _∙_}
-use mathlib.Core.Bool.{Bool, true, false, _||_, _&&_}
-use mathlib.Core.List.{List, [], _∷_, map}
-use Prim.Native.Nat.{ℕ, zero, suc, _+_, _≤_, _<_, min, max}
+use mathlib.Core.Path.{_≡_, refl, ap, ap₂, _∙_}
+use mathlib.Core.List.{[], _∷_}
+use Prim.Native.Nat.{ℕ, zero, suc, _<_}
 use native.Mathlib.Nat.{add-comm, add-assoc}
 use native.Mathlib.Omega.{arith}
-use lib.Dec.{ltb, eqb}
-use lib.ListN.{length, getD, set, take}
+use lib.ListN.{length, getD, set}
 use Rattle.std.specs.Orderings.{Decides}
-use Rattle.std.specs.shelf.Lists.{All}
-use Rattle.std.specs.declared.option.Option.{Option}
 use Rattle.std.specs.declared.option.Option.the-variants.{Some, None}
-use Rattle.std.proofs.shelf.Lists.{getD-take, set-set}
-use Rattle.std.proofs.shelf.Tests.{ltb-false, le-ltb, eqb-true, eq-eqb, and-parts, and-from, or-from, or-parts}
-use Rattle.std.proofs.shelf.Ways.{tells, same-from-decides}
-use Rattle.model.specs.Limits.{greatest-time}
-use Rattle.model.specs.Lists.{some}
-use Rattle.model.specs.Scenes.{Shape, Scene, Scene-of, size, scenes}
-use Rattle.model.specs.Charts.{Time, Chart, at, lesser, greater, plus, zipped, dialled, put-chart, greatest, late, same-time, same-chart}
-use Rattle.model.specs.ChartLaws.{Cheaper-laws, Sum-laws, Put-once, Same-is-equal, Lengths, Latest, No-later}
-use Rattle.model.proofs.Ranks.{tabulated, tabulated-as, tabulated-length, all-scenes, set-scene, setting-less}
+use Rattle.std.proofs.shelf.Lists.{set-set}
+use Rattle.std.proofs.shelf.Tests.{eqb-true, eq-eqb, and-parts, and-from}
+use Rattle.model.specs.Scenes.{Shape, size}
+use Rattle.model.specs.Charts.{Time, Chart, at, lesser, plus, zipped, put-chart, same-time, same-chart}
+use Rattle.model.specs.ChartLaws.{Cheaper-laws, Sum-laws, Put-once, Same-is-equal, Lengths}
+use Rattle.model.proofs.Ranks.{tabulated, tabulated-as, tabulated-length, set-scene}
 
 -- Two charts joined entry by entry
 
@@ -124,10 +117,11 @@ pub same-is-equal : Same-is-equal
 same-is-equal [] [] = (λ _. refl, λ _. refl)
 same-is-equal [] (y ∷ b) = (λ e. absurd (grind arith), λ e. absurd (grind arith))
 same-is-equal (x ∷ a) [] = (λ e. absurd (grind arith), λ e. absurd (grind arith))
-same-is-equal (x ∷ a) (y ∷ b) =
-    ( λ e. let both = and-parts (same-time x y) (same-chart a b) e in
-        ap₂ (λ (w : Time) (d : Chart). w ∷ d) (same-time-tells x y .0 (both .0)) (same-is-equal a b .0 (both .1))
-    , λ e. and-from (same-time x y) (same-chart a b) (same-time-tells x y .1 (heads e)) (same-is-equal a b .1 (tails e)))
+same-is-equal (x ∷ a) (y ∷ b) = (
+  λ e. let both = and-parts (same-time x y) (same-chart a b) e in
+      ap₂ (λ (w : Time) (d : Chart). w ∷ d) (same-time-tells x y .0 (both .0)) (same-is-equal a b .0 (both .1)),
+  λ e. and-from (same-time x y) (same-chart a b) (same-time-tells x y .1 (heads e)) (same-is-equal a b .1 (tails e)),
+)
 
 -- Put
 

@@ -1,13 +1,11 @@
 -- The greatest times of charts, and what is late. Assumes nothing.
-use mathlib.Core.Path.{_≡_, refl, sym, ap, ap₂, subst, _∙_}
+use mathlib.Core.Path.{_≡_, refl, ap, subst, _∙_}
 use mathlib.Core.Bool.{Bool, true, false, _||_}
 use mathlib.Core.List.{List, [], _∷_, map}
-use Prim.Native.Nat.{ℕ, zero, suc, _+_, _≤_, _<_, min, max}
+use Prim.Native.Nat.{ℕ, zero, suc, _<_}
 use native.Mathlib.Omega.{arith}
-use lib.Dec.{ltb}
 use lib.ListN.{length, getD, set, take}
 use Rattle.std.specs.shelf.Lists.{All}
-use Rattle.std.specs.declared.option.Option.{Option}
 use Rattle.std.specs.declared.option.Option.the-variants.{Some, None}
 use Rattle.std.proofs.shelf.Lists.{getD-take}
 use Rattle.std.proofs.shelf.Elements.{all-weaker}
@@ -15,7 +13,7 @@ use Rattle.std.proofs.shelf.Tests.{ltb-false, le-ltb}
 use Rattle.std.proofs.shelf.Ways.{tells}
 use Rattle.model.specs.Limits.{greatest-time}
 use Rattle.model.specs.Lists.{some}
-use Rattle.model.specs.Scenes.{Shape, Scene, Scene-of, scenes}
+use Rattle.model.specs.Scenes.{Shape, Scene-of, scenes}
 use Rattle.model.specs.Charts.{Time, Chart, at, lesser, greater, plus, zipped, dialled, put-chart, greatest, late}
 use Rattle.model.specs.ChartLaws.{Latest, No-later}
 use Rattle.model.proofs.Ranks.{all-scenes, setting-less}
@@ -91,8 +89,8 @@ of-dialled : (ns : Shape) (v : ℕ) (es : List Time) → v < length ns → No-la
 of-dialled ns v es h =
     over-each (λ s. getD es (getD s v 0) None) (greatest (take (getD ns v 0) es)) (scenes ns)
     (all-weaker (Scene-of ns) (λ s. No-later (getD es (getD s v 0) None) (greatest (take (getD ns v 0) es)))
-      (λ s l. subst (λ (t : Time). No-later t (greatest (take (getD ns v 0) es))) (getD-take (getD ns v 0) es (getD s v 0) None (setting-less ns s v l h)) (entry-under (take (getD ns v 0) es) (getD s v 0)))
-      (scenes ns) (all-scenes ns))
+    (λ s l. subst (λ (t : Time). No-later t (greatest (take (getD ns v 0) es))) (getD-take (getD ns v 0) es (getD s v 0) None (setting-less ns s v l h)) (entry-under (take (getD ns v 0) es) (getD s v 0)))
+    (scenes ns) (all-scenes ns))
 
 of-put : (ns : Shape) (v d : ℕ) (c : Chart) → No-later (greatest (put-chart ns v d c)) (greatest c)
 of-put ns v d c = over-each (λ s. at ns c (set s v d)) (greatest c) (scenes ns) (all-true (λ s. No-later (at ns c (set s v d)) (greatest c)) (λ s. entry-under c _) (scenes ns))

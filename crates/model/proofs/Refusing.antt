@@ -7,7 +7,7 @@ use native.Mathlib.Omega.{arith}
 use Rattle.std.specs.shelf.Lists.{All}
 use Rattle.std.specs.declared.result.Result.{Result}
 use Rattle.std.specs.declared.result.Result.the-variants.{Ok, Err}
-use Rattle.std.proofs.shelf.Tests.{cond-false}
+use Rattle.std.proofs.shelf.Tests.{cond-true, cond-false}
 use Rattle.model.specs.Refusals.{Check, refuse, answer, left-by}
 
 ok-not-err : {T : Type 0} {x : T} {n : ℕ} → Err n ≡ Ok x → ⊥
@@ -35,6 +35,17 @@ accepted (k ∷ cs) x y e =
 pub accepts : {T : Type 0} (cs : List Check) (x : T) → All (λ k. k .holds ≡ false) cs → answer cs x ≡ Ok x
 accepts [] x h = refl
 accepts (k ∷ cs) x h = cond-false (k .holds) (Err (k .number)) (answer cs x) (h .0) ∙ accepts cs x (h .1)
+
+-- and its result is the one that is given
+pub accepted-is : {T : Type 0} (cs : List Check) (x y : T) → answer cs x ≡ Ok y → x ≡ y
+accepted-is [] x y e = cc
+accepted-is (k ∷ cs) x y e = accepted-is cs x y (passed (k .holds) (k .number) (answer cs x) y e .1)
+
+-- the first check that holds is the answer
+pub refuses : {T : Type 0} (before : List Check) (n : ℕ) (b : Bool) (after : List Check) (x : T) → All (λ k. k .holds ≡ false) before → b ≡ true → answer (before ++ (refuse n b ∷ after)) x ≡ Err n
+refuses [] n b after x h e = cond-true b (Err n) (answer after x) e
+refuses (k ∷ before) n b after x h e =
+    cond-false (k .holds) (Err (k .number)) (answer (before ++ (refuse n b ∷ after)) x) (h .0) ∙ refuses before n b after x (h .1) e
 
 -- a refusal is not altered by what would have been checked after it
 pub refused-first : {T U : Type 0} (cs ds : List Check) (x : T) (y : U) (n : ℕ) → answer cs x ≡ Err n → answer (cs ++ ds) y ≡ Err n

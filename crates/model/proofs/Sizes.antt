@@ -1,20 +1,20 @@
 -- How many scenes a shape has, device by device. Assumes nothing.
-use mathlib.Core.Path.{_≡_, refl, sym, ap, subst, _∙_}
-use mathlib.Core.Bool.{Bool, true, false, _||_}
-use mathlib.Core.List.{List, [], _∷_, _++_}
+use mathlib.Core.Path.{_≡_, sym, ap, _∙_}
+use mathlib.Core.Bool.{Bool, false}
+use mathlib.Core.List.{[], _∷_, _++_}
 use Prim.Native.Nat.{ℕ, zero, suc, _+_, _*_, _^_, _≤_, _<_}
-use native.Mathlib.Nat.{mul-one, one-mul, mul-assoc, mul-le-mul, pow-suc, pow-le-pow-right, add-mul}
+use native.Mathlib.Nat.{mul-one, one-mul, mul-assoc, pow-suc, pow-le-pow-right, add-mul}
 use native.Mathlib.Numerals.{add-one}
 use native.Mathlib.Omega.{arith}
 use lib.Dec.{ltb, lit<}
 use lib.ListN.{length, getD, take, drop}
 use Rattle.std.proofs.shelf.Bits.{mul-le}
-use Rattle.std.proofs.shelf.Lists.{take-more, length-take-le}
-use Rattle.std.proofs.shelf.Tests.{or-parts, or-from, ltb-false}
+use Rattle.std.proofs.shelf.Lists.{take-more, length-take, length-drop, length-take-le}
+use Rattle.std.proofs.shelf.Tests.{or-parts, ltb-false}
 use Rattle.model.specs.Limits.{outside, most-devices, least-settings, most-settings}
 use Rattle.model.specs.Lists.{some}
 use Rattle.model.specs.Scenes.{Shape, size, shape-off}
-use Rattle.model.proofs.Testing.{none-take, none-at}
+use Rattle.model.proofs.Testing.{none-take, none-drop, none-at}
 
 -- Legal counts
 
@@ -32,6 +32,17 @@ legal-parts ns h =
     let both = or-parts (outside 1 most-devices (length ns)) (some count-off ns) h in
     let ends = or-parts (ltb (length ns) 1) (ltb most-devices (length ns)) (both .0) in
     (ltb-false (length ns) 1 (ends .0), ltb-false 12 (length ns) (ends .1), both .1)
+
+-- the first devices of a legal shape, and the others
+pub legal-take : (i : ℕ) (ns : Shape) → shape-off ns ≡ false → (length (take i ns) ≤ 12) × (some count-off (take i ns) ≡ false)
+legal-take i ns h =
+    let p = legal-parts ns h in
+    (omega (arith, length-take i ns, p .1), none-take count-off i ns (p .2))
+
+pub legal-drop : (i : ℕ) (ns : Shape) → shape-off ns ≡ false → (length (drop i ns) ≤ 12) × (some count-off (drop i ns) ≡ false)
+legal-drop i ns h =
+    let p = legal-parts ns h in
+    (omega (arith, length-drop i ns, p .1), none-drop count-off i ns (p .2))
 
 -- a device has two to eight settings
 pub setting-count : (ns : Shape) (v : ℕ) → some count-off ns ≡ false → v < length ns → (2 ≤ getD ns v 0) × (getD ns v 0 ≤ 8)

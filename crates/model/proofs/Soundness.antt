@@ -1,29 +1,34 @@
 -- A sound shelf stays sound. Assumes nothing.
-use mathlib.Core.Path.{_≡_, refl, sym, ap, subst, _∙_}
-use mathlib.Core.Bool.{Bool, true, false, cond, not, _||_, _&&_}
-use mathlib.Core.List.{List, [], _∷_, _++_, map}
-use Prim.Native.Nat.{ℕ, zero, suc, _+_, _≤_, _<_}
+use mathlib.Core.Path.{_≡_, sym, _∙_}
+use mathlib.Core.Bool.{Bool, true, false, not}
+use mathlib.Core.List.{[], _∷_}
+use Prim.Native.Nat.{ℕ, zero, suc}
 use native.Mathlib.Omega.{arith}
 use borrow.Author.Needs.{needs}
-use lib.Dec.{ltb, leb}
 use lib.ListN.{length, getD, set, take}
 use Rattle.std.specs.shelf.Lists.{All}
 use Rattle.std.specs.Options.{isSome, Cases}
 use Rattle.std.specs.declared.option.Option.{Option}
 use Rattle.std.specs.declared.option.Option.the-variants.{Some, None}
-use Rattle.std.specs.declared.result.Result.{Result}
 use Rattle.std.specs.declared.result.Result.the-variants.{Ok, Err}
 use Rattle.std.proofs.shelf.Lists.{length-set}
-use Rattle.std.proofs.shelf.Tests.{or-parts, or-from, leb-false}
+use Rattle.std.proofs.shelf.Tests.{or-parts, leb-false}
 use Rattle.model.specs.Lists.{some}
-use Rattle.model.specs.Scenes.{Shape, Scene, size}
+use Rattle.model.specs.Scenes.{size}
 use Rattle.model.specs.Charts.{Time, Chart, lesser, greater, plus, zipped, dialled, put-chart, greatest, late}
-use Rattle.model.specs.Refusals.{Check, refuse, answer, left-by}
-use Rattle.model.specs.Shelves.{Meaning, Pegs, Call, dial, cheaper, sum, put, Sound, chart-of, on, bare, high, hung, target, after, with-pegs, call-checks, does, done, wipes, wiped}
-use Rattle.model.specs.ChartLaws.{Stays-sound, No-later}
-use Rattle.model.proofs.Refusing.{accepted, left-either}
+use Rattle.model.specs.Shelves.{Meaning, Pegs, Call, dial, cheaper, sum, put, Sound, chart-of, on, bare, hung, target, after, with-pegs, call-checks, does, done, wipes, wiped}
+use Rattle.model.specs.ChartLaws.{Stays-sound}
+use Rattle.model.proofs.Refusing.{accepted, left-ok, left-err, left-either}
 use Rattle.model.proofs.Charting.{zipped-length, put-length, lengths}
 use Rattle.model.proofs.Lateness.{late-tells, legal-under, latest}
+
+-- What a call leaves
+
+pub call-refused : (m : Meaning) (c : Call) (n : ℕ) → does m c ≡ Err n → done m c ≡ m
+call-refused m c n e = left-err (does m c) n (with-pegs m (after (m .shape) (m .pegs) c)) m e
+
+pub call-accepted : (m : Meaning) (c : Call) → does m c ≡ Ok tt → done m c ≡ with-pegs m (after (m .shape) (m .pegs) c)
+call-accepted m c e = left-ok (does m c) tt (with-pegs m (after (m .shape) (m .pegs) c)) m e
 
 -- Pegs
 
@@ -47,7 +52,7 @@ module _ (m : Meaning) (s : Sound m) where
   pub legal-on : (p : ℕ) → bare (m .pegs) p ≡ false → some late (on (m .pegs) p) ≡ false
   legal-on p e = carries (λ c. some late c ≡ false) (getD (m .pegs) p None) e (s .timely p)
 
-  sound-hung : (t : ℕ) (c : Chart) → length c ≡ size (m .shape) → some late c ≡ false → Sound (with-pegs m (set (m .pegs) t (Some c)))
+  pub sound-hung : (t : ℕ) (c : Chart) → length c ≡ size (m .shape) → some late c ≡ false → Sound (with-pegs m (set (m .pegs) t (Some c)))
   sound-hung t c l k = record {
     legal = s .legal;
     eight = length-set (m .pegs) t (Some c) ∙ s .eight;
@@ -55,7 +60,7 @@ module _ (m : Meaning) (s : Sound m) where
     timely = each-hung (λ d. some late d ≡ false) (m .pegs) t (Some c) k (s .timely);
   }
 
-  greatest-on : (p : ℕ) → bare (m .pegs) p ≡ false → late (greatest (on (m .pegs) p)) ≡ false
+  pub greatest-on : (p : ℕ) → bare (m .pegs) p ≡ false → late (greatest (on (m .pegs) p)) ≡ false
   greatest-on p e = sym (late-tells (on (m .pegs) p)) ∙ legal-on p e
 
   both-late : (a b : Time) → late a ≡ false → late b ≡ false → late (greater a b) ≡ false
@@ -74,7 +79,7 @@ module _ (m : Meaning) (s : Sound m) where
       zipped-length plus (on (m .pegs) a) (on (m .pegs) b) (whole-on a (both .0) ∙ sym (whole-on b (both .1))) ∙ whole-on a (both .0)
   hung-whole (put t a v d) h = put-length (m .shape) v d (on (m .pegs) a)
 
-  hung-legal : (c : Call) → All (λ k. k .holds ≡ false) (call-checks m c) → some late (hung (m .shape) (m .pegs) c) ≡ false
+  pub hung-legal : (c : Call) → All (λ k. k .holds ≡ false) (call-checks m c) → some late (hung (m .shape) (m .pegs) c) ≡ false
   hung-legal (dial t v es) h =
       legal-under (dialled (m .shape) v es) (greatest (take (getD (m .shape) v 0) es))
       (latest .of-dialled (m .shape) v es (leb-false (length (m .shape)) v (h .0)))

@@ -1,13 +1,12 @@
 -- Charts by strides: a scene's place is a block, a setting of one device, and a rest. Assumes nothing.
-use mathlib.Core.Path.{_≡_, refl, sym, ap, subst, _∙_}
+use mathlib.Core.Path.{_≡_, sym, ap, subst, _∙_}
 use mathlib.Core.List.{List, [], _∷_}
-use Prim.Native.Nat.{ℕ, zero, suc, _+_, _*_, _≤_, _<_}
+use Prim.Native.Nat.{ℕ, zero, suc, _+_, _*_, _<_}
 use native.Mathlib.Nat.{mul-assoc, add-mul}
 use native.Mathlib.Numerals.{add-one}
 use native.Mathlib.Omega.{arith}
 use lib.ListN.{length, getD, set, take, drop}
-use Rattle.std.specs.declared.option.Option.{Option}
-use Rattle.std.specs.declared.option.Option.the-variants.{Some, None}
+use Rattle.std.specs.declared.option.Option.the-variants.{None}
 use Rattle.model.specs.Scenes.{Shape, Scene, Scene-of, size, scenes, rank}
 use Rattle.model.specs.Charts.{Time, Chart, at, dialled, put-chart}
 use Rattle.model.proofs.Ranks.{rank-less, rank-set, setting-less, same-charts, tabulated, tabulated-length}
@@ -53,9 +52,9 @@ placed-at (n ∷ ns) (suc v) (x ∷ xs) l h =
       block-low = digit-more x (p .block) (size (take v ns)) n (l .0) (p .block-low);
       rest-low = subst (λ (k : ℕ). p .rest < k) (sym deeper) (p .rest-low);
       place =
-        ap (λ k. x * k + rank ns xs) (size-split ns v (omega arith)) ∙ ap (λ k. x * (size (take v ns) * w) + k) (p .place)
-        ∙ further x (size (take v ns)) (p .block) w (getD xs v 0 * stride ns v + p .rest)
-        ∙ ap (λ k. (x * size (take v ns) + p .block) * (getD ns v 0 * k) + (getD xs v 0 * k + p .rest)) (sym deeper);
+          ap (λ k. x * k + rank ns xs) (size-split ns v (omega arith)) ∙ ap (λ k. x * (size (take v ns) * w) + k) (p .place)
+          ∙ further x (size (take v ns)) (p .block) w (getD xs v 0 * stride ns v + p .rest)
+          ∙ ap (λ k. (x * size (take v ns) + p .block) * (getD ns v 0 * k) + (getD xs v 0 * k + p .rest)) (sym deeper);
     }
 
 -- a chart with the entry of a setting at each of its places is dialled
@@ -64,9 +63,9 @@ pub dialled-by-strides : (ns : Shape) (v : ℕ) (es : List Time) (c : Chart) →
     → c ≡ dialled ns v es
 dialled-by-strides ns v es c h whole each =
     same-charts ns c (dialled ns v es) whole (tabulated-length ns (λ s. getD es (getD s v 0) None)) (λ s l.
-      let p = placed-at ns v s l h in
-      ap (λ k. getD c k None) (p .place) ∙ each (p .block) (getD s v 0) (p .rest) (p .block-low) (setting-less ns s v l h) (p .rest-low)
-      ∙ sym (tabulated ns (λ q. getD es (getD q v 0) None) s l))
+    let p = placed-at ns v s l h in
+    ap (λ k. getD c k None) (p .place) ∙ each (p .block) (getD s v 0) (p .rest) (p .block-low) (setting-less ns s v l h) (p .rest-low)
+    ∙ sym (tabulated ns (λ q. getD es (getD q v 0) None) s l))
 
 -- a chart that has at each place what the source has at the setting is put
 pub put-by-strides : (ns : Shape) (v d : ℕ) (old c : Chart) → v < length ns → length c ≡ size ns
@@ -74,8 +73,8 @@ pub put-by-strides : (ns : Shape) (v d : ℕ) (old c : Chart) → v < length ns 
     → c ≡ put-chart ns v d old
 put-by-strides ns v d old c h whole each =
     same-charts ns c (put-chart ns v d old) whole (tabulated-length ns (λ s. at ns old (set s v d))) (λ s l.
-      let p = placed-at ns v s l h in
-      let moved : rank ns (set s v d) ≡ spot ns v (p .block) d (p .rest) =
-        omega (arith, rank-set ns s v d l h, ap (λ k. getD s v 0 * size (drop k ns)) (add-one v), ap (λ k. d * size (drop k ns)) (add-one v), p .place) in
-      ap (λ k. getD c k None) (p .place) ∙ each (p .block) (getD s v 0) (p .rest) (p .block-low) (setting-less ns s v l h) (p .rest-low)
-      ∙ ap (λ k. getD old k None) (sym moved) ∙ sym (tabulated ns (λ q. at ns old (set q v d)) s l))
+    let p = placed-at ns v s l h in
+    let moved : rank ns (set s v d) ≡ spot ns v (p .block) d (p .rest) =
+    omega (arith, rank-set ns s v d l h, ap (λ k. getD s v 0 * size (drop k ns)) (add-one v), ap (λ k. d * size (drop k ns)) (add-one v), p .place) in
+    ap (λ k. getD c k None) (p .place) ∙ each (p .block) (getD s v 0) (p .rest) (p .block-low) (setting-less ns s v l h) (p .rest-low)
+    ∙ ap (λ k. getD old k None) (sym moved) ∙ sym (tabulated ns (λ q. at ns old (set q v d)) s l))

@@ -32,7 +32,6 @@ module _ {X : Type 0} where
   some-at t (x ∷ xs) zero d h e = rw e
   some-at t (x ∷ xs) (suc k) d h e = or-right (t x) (some t xs) (some-at t xs k d (omega arith) e)
 
-
   found-by : (t : X → Bool) (x : X) (xs : List X) (b : Bool) → t x ≡ b → (b || some t xs) ≡ true → (some t xs ≡ true → (k : ℕ) × (k < length xs) × ((d : X) → t (getD xs k d) ≡ true)) → (k : ℕ) × (k < length (x ∷ xs)) × ((d : X) → t (getD (x ∷ xs) k d) ≡ true)
   found-by t x xs true h e later = (0, omega arith, λ d. h)
   found-by t x xs false h e later = (suc (later e .0), omega (arith, later e .1), later e .2)

@@ -9,11 +9,12 @@ use Rattle.std.specs.Options.{isSome}
 use Rattle.std.specs.declared.option.Option.{Option}
 use Rattle.std.specs.declared.option.Option.the-variants.{Some, None}
 use Rattle.std.specs.declared.result.Result.{Result}
+use Rattle.std.specs.declared.result.Result.the-variants.{Ok, Err}
 use Rattle.model.specs.Limits.{outside, least-byte, most-byte, most-slots, most-conditions, most-effects, most-surcharges, most-tests, most-tenths}
-use Rattle.model.specs.Lists.{total, some, some-two, repeats}
-use Rattle.model.specs.Scenes.{Shape, Scene, shape-off}
-use Rattle.model.specs.Moves.{Pair, Surcharge, Move, all-hold, applied, time}
-use Rattle.model.specs.Masks.{ill, all-of, product-of-ones}
+use Rattle.model.specs.Lists.{total, some, some-two, repeats, count}
+use Rattle.model.specs.Scenes.{Shape, Scene, shape-off, scenes}
+use Rattle.model.specs.Moves.{Pair, Surcharge, Move, Transition, all-hold, applied, time}
+use Rattle.model.specs.Masks.{ill, all-of, wanted, product-of-ones}
 use Rattle.model.specs.Refusals.{Check, refuse, answer, passes, left-by}
 use Rattle.model.specs.Contents.{Contents, Name, slot, with-slot, with-scene, with-masks}
 
@@ -141,6 +142,11 @@ performs c n = answer (no-slot c n ∷ vacant c n ∷ unmet c n ∷ []) (in-slot
 abbrev pub performed : Contents → ℕ → Contents
 performed c n = left-by (performs c n) (with-scene c (in-slot (λ m. applied (m .effects) (c .scene)) (c .scene) (slot c n))) c
 
+-- an accepted perform is a transition of planning with state-dependent action costs
+abbrev pub Moved : Contents → ℕ → Result ℕ ℕ → Contents → Type 0
+Moved c n (Ok t) d = (m : Move) × (slot c n ≡ Some m) × Transition m (c .scene) t (d .scene)
+Moved c n (Err f) d = Unit {0}
+
 -- Masks
 
 abbrev pub want-checks : Shape → List ℕ → List Check
@@ -152,6 +158,11 @@ wants c ms = answer (want-checks (c .settings) ms) (product-of-ones ms)
 
 abbrev pub wanting : Contents → List ℕ → Contents
 wanting c ms = left-by (wants c ms) (with-masks c ms) c
+
+-- and these are the scenes among all
+abbrev pub Counts-wanted : Contents → List ℕ → Result ℕ ℕ → Type 0
+Counts-wanted c ms (Ok k) = k ≡ count (wanted ms) (scenes (c .settings))
+Counts-wanted c ms (Err f) = Unit {0}
 
 -- a device's setting and its mask
 abbrev pub looks : Contents → ℕ → Result (ℕ × ℕ) ℕ

@@ -6,6 +6,7 @@ pub mod Masks
 pub mod Refusals
 pub mod Contents
 pub mod Calls
+pub mod Smallest
 pub mod Charts
 pub mod Ranks
 pub mod Parts

@@ -25,6 +25,11 @@ abbrev pub some : {X : Type 0} → (X → Bool) → List X → Bool
 some t [] = false
 some t (x ∷ xs) = t x || some t xs
 
+-- at how many elements the test passes
+abbrev pub count : {X : Type 0} → (X → Bool) → List X → ℕ
+count t [] = 0
+count t (x ∷ xs) = cond (t x) 1 0 + count t xs
+
 -- the test passes at some two elements of the same place
 abbrev pub some-two : {X Y : Type 0} → (X → Y → Bool) → List X → List Y → Bool
 some-two t [] ys = false

@@ -1,17 +1,17 @@
 -- Shelves of eight pegs: what one means, and what each call answers and leaves. Assumes nothing.
-use Prim.Native.Nat.{ℕ}
+use Prim.Native.Nat.{ℕ, _*_}
 use mathlib.Core.Path.{_≡_}
-use mathlib.Core.Bool.{Bool, true, false, cond, not, _||_, _&&_}
+use mathlib.Core.Bool.{Bool, false, not, _||_, _&&_}
 use mathlib.Core.List.{List, [], _∷_, _++_}
 use lib.Dec.{ltb, leb, eqb}
-use lib.ListN.{length, getD, set, take}
+use lib.ListN.{length, getD, set, take, replicate}
 use Rattle.std.specs.Options.{isSome, Cases}
 use Rattle.std.specs.declared.option.Option.{Option}
 use Rattle.std.specs.declared.option.Option.the-variants.{Some, None}
 use Rattle.std.specs.declared.result.Result.{Result}
 use Rattle.model.specs.Limits.{peg-count}
 use Rattle.model.specs.Lists.{some, some-two}
-use Rattle.model.specs.Scenes.{Shape, Scene, size, scenes, shape-off}
+use Rattle.model.specs.Scenes.{Shape, Scene, size, shape-off}
 use Rattle.model.specs.Charts.{Time, Chart, at, lesser, plus, zipped, dialled, put-chart, greatest, late, same-chart}
 use Rattle.model.specs.Parts.{parts-of-all}
 use Rattle.model.specs.Refusals.{Check, refuse, answer, left-by}
@@ -129,6 +129,14 @@ charts (Some c ∷ ps) = c ∷ charts ps
 -- a flat shelf takes no room for a chart
 abbrev pub flat-fill : Pegs → Chart → ℕ
 flat-fill ps c = 0
+
+-- a flat shelf needs a number for each scene and peg
+abbrev pub flat-opens : Shape → ℕ → Result (Unit {0}) ℕ
+flat-opens ns cells = answer (refuse 1 (shape-off ns) ∷ refuse 3 (ltb cells (peg-count * size ns)) ∷ []) tt
+
+-- and opens with every peg bare
+abbrev pub flat-opened : Shape → Meaning
+flat-opened ns = record { shape = ns; capacity = 0; fill = flat-fill; pegs = replicate peg-count None }
 
 -- a diagram shelf has a node for each different part of the charts on its pegs and the chart to be hung
 abbrev pub diagram-fill : Shape → Pegs → Chart → ℕ

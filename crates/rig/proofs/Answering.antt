@@ -7,8 +7,8 @@ use Rattle.std.specs.Results.{ErrBy}
 use Rattle.std.proofs.shelf.Results.{err-from-errBy}
 use Rattle.model.specs.Refusals.{left-by}
 use Rattle.model.proofs.Refusing.{left-ok, left-err}
-use Rattle.rig.specs.declared.fault.RigFault.{RigFault}
-use Rattle.rig.specs.Faults.{number, numbered}
+use Rattle.moves.specs.declared.fault.RigFault.{RigFault}
+use Rattle.moves.specs.Faults.{number, numbered}
 
 module _ {T C : Type 0} (defined : Result T ℕ) (new old : C) where
   -- a refusal that leaves all as it was

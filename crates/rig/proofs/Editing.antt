@@ -7,18 +7,15 @@ use Rattle.std.specs.declared.option.Option.{Option}
 use Rattle.std.specs.declared.option.Option.the-variants.{Some, None}
 use Rattle.std.specs.declared.result.Result.{Result}
 use Rattle.std.specs.declared.result.Result.the-variants.{Ok, Err}
-use Rattle.lists.specs.declared.short.Short.{Short}
-use Rattle.lists.specs.Shorts.{listed}
 use Rattle.model.specs.Scenes.{Shape}
 use Rattle.model.specs.Moves as model
 use Rattle.model.specs.Refusals.{answer, passes}
 use Rattle.model.specs.Contents.{Contents, slot}
 use Rattle.model.specs.Calls.{adds, retimes, move-checks, timing-checks, retiming, in-slot, lawful-slot}
-use Rattle.theory.proofs.Keeping.{accepted-passes, retiming-lawful}
-use Rattle.rig.specs.declared.moves.Move.{Move}
-use Rattle.rig.specs.declared.moves.Surcharge.{Surcharge}
-use Rattle.rig.specs.Views.{surcharge-of, move-of, slot-of}
-use Rattle.rig.specs.Slots.{in-use-at, vacant-at, slot-with-times}
+use Rattle.theory.proofs.Keeping.{accepted-passes, retimed-slot}
+use Rattle.moves.specs.declared.entry.Move.{Move}
+use Rattle.moves.specs.Views.{slot-of}
+use Rattle.rig.specs.Slots.{in-use-at, vacant-at}
 use Rattle.rig.proofs.Seen.{vacancy-found, move-passed}
 
 -- a vacant slot, and a move that was judged by the settings ns
@@ -39,13 +36,7 @@ pub move-lawful : (ns ms : Shape) (d m : model.Move) → ns ≡ ms → m ≡ d �
 move-lawful ns ms d m shape e h =
     subst (λ (k : Shape). passes (move-checks k m) ≡ true) shape (subst (λ (x : model.Move). passes (move-checks ns x) ≡ true) (sym e) (accepted-passes (move-checks ns d) tt tt h))
 
-module _ (base : ℕ) (short : Short Surcharge 8) (ys : List model.Surcharge) (whole : map surcharge-of (listed short) ≡ ys) where
-  pub retimed-seen : (o : Option Move) → slot-of (slot-with-times base short o) ≡ in-slot (λ m. Some (retiming base ys m)) None (slot-of o)
-  retimed-seen None = refl
-  retimed-seen (Some m) = ap (λ (zs : List model.Surcharge). Some (retiming base zs (move-of m))) whole
-
-  pub retimed-lawful : (ns ms : Shape) → ns ≡ ms → answer (timing-checks ns base ys) (tt {0}) ≡ Ok (tt {0}) → (o : Option Move) → lawful-slot ms (slot-of o) ≡ true → lawful-slot ms (slot-of (slot-with-times base short o)) ≡ true
-  retimed-lawful ns ms shape h None e = refl
-  retimed-lawful ns ms shape h (Some m) e =
-      subst (λ (zs : List model.Surcharge). passes (move-checks ms (retiming base zs (move-of m))) ≡ true) (sym whole)
-      (retiming-lawful ms base ys (move-of m) e (subst (λ (k : Shape). passes (timing-checks k base ys) ≡ true) shape (accepted-passes (timing-checks ns base ys) tt tt h)))
+pub retimed-lawful : (base : ℕ) (ys : List model.Surcharge) (ns ms : Shape) → ns ≡ ms → answer (timing-checks ns base ys) (tt {0}) ≡ Ok (tt {0}) → (o p : Option Move)
+    → slot-of p ≡ in-slot (λ m. Some (retiming base ys m)) None (slot-of o) → lawful-slot ms (slot-of o) ≡ true → lawful-slot ms (slot-of p) ≡ true
+retimed-lawful base ys ns ms shape h o p e k =
+    ap (lawful-slot ms) e ∙ retimed-slot ms base ys (slot-of o) k (subst (λ (l : Shape). passes (timing-checks l base ys) ≡ true) shape (accepted-passes (timing-checks ns base ys) tt tt h))

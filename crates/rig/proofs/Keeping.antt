@@ -18,9 +18,9 @@ use Rattle.model.specs.Contents.{Contents, Name}
 use Rattle.model.specs.Calls.{Lawful, open-checks, want-checks, lawful-slot}
 use Rattle.model.proofs.Ranks.{scene-length}
 use Rattle.theory.proofs.Told.{contents-told}
-use Rattle.rig.specs.declared.moves.Move.{Move}
+use Rattle.moves.specs.declared.entry.Move.{Move}
 use Rattle.rig.specs.declared.frame.Rig.{Rig}
-use Rattle.rig.specs.Views.{slot-of}
+use Rattle.moves.specs.Views.{slot-of}
 use Rattle.rig.specs.Rigs.{contents}
 use Rattle.rig.proofs.Seen.{slot-at}
 
@@ -32,7 +32,7 @@ pub slots-set : (ns : Shape) (n : ℕ) (xs : List (Option Move)) (i : ℕ) (o : 
 slots-set ns n xs i o whole h e k lt =
     ⊎-elim
     (λ same. subst (λ (j : ℕ). lawful-slot ns (slot-of (getD (set xs j o) k None)) ≡ true) same
-      (ap (λ (p : Option Move). lawful-slot ns (slot-of p)) (getD-set-same xs k o None (omega arith)) ∙ e))
+    (ap (λ (p : Option Move). lawful-slot ns (slot-of p)) (getD-set-same xs k o None (omega arith)) ∙ e))
     (λ other. ap (λ (p : Option Move). lawful-slot ns (slot-of p)) (getD-set-other xs i k o None other) ∙ h k lt)
     (cases-eq k i)
 

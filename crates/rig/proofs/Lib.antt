@@ -1,5 +1,3 @@
-pub mod Loops
-pub mod Bounds
 pub mod Seen
 pub mod Keeping
 pub mod Writing

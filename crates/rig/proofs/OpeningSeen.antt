@@ -26,9 +26,9 @@ use Rattle.model.specs.Calls.{Lawful, opens, opened}
 use Rattle.model.proofs.Testing.{none-at}
 use Rattle.theory.proofs.Opening.{openings-lawful}
 use Rattle.rig.specs.declared.devices.Devices.{Devices}
-use Rattle.rig.specs.declared.moves.Move.{Move}
+use Rattle.moves.specs.declared.entry.Move.{Move}
 use Rattle.rig.specs.Openings.{As-given}
-use Rattle.rig.specs.Views.{slot-of}
+use Rattle.moves.specs.Views.{slot-of}
 
 -- each device of a legal shape has few settings
 pub few-settings : (ns : Shape) (i : ℕ) → shape-off ns ≡ false → i < length ns → getD ns i 0 ≤ most-settings

@@ -14,17 +14,17 @@ use Rattle.model.specs.Contents.{Contents, slot, with-scene}
 use Rattle.model.specs.Calls.{unmet, in-slot, performs, performed, Lawful}
 use Rattle.theory.specs.Performing.{Performed}
 use Rattle.theory.proofs.Performing.{answers-by-move, leaves-by-move, performed-keeps}
-use Rattle.rig.specs.declared.moves.Move.{Move}
-use Rattle.rig.specs.declared.pair.Pair.{Pair}
-use Rattle.rig.specs.declared.fault.RigFault.{RigFault}
-use Rattle.rig.specs.Faults.{number}
-use Rattle.rig.specs.Views.{pairs-of, move-of, slot-of}
+use Rattle.moves.specs.declared.entry.Move.{Move}
+use Rattle.moves.specs.declared.pair.Pair.{Pair}
+use Rattle.moves.specs.declared.fault.RigFault.{RigFault}
+use Rattle.moves.specs.Faults.{number}
+use Rattle.moves.specs.Views.{pairs-of, move-of, slot-of}
 use Rattle.rig.specs.Slots.{in-use-at}
 use Rattle.rig.proofs.Seen.{no-move, move-passed, move-there}
 
 -- what was said of two slices holds of what they lend
-pub said-of : (s s′ : Scene) (ps ps′ : List Pair) (b : Bool) → s ≡ s′ → ps ≡ ps′ → b ≡ all-hold s (pairs-of ps) → all-hold s′ (pairs-of ps′) ≡ b
-said-of s s′ ps ps′ b es eps h = sym (h ∙ ap (λ (t : Scene). all-hold t (pairs-of ps)) es ∙ ap (λ (qs : List Pair). all-hold s′ (pairs-of qs)) eps)
+pub said-of : (s s′ : Scene) (ps : List Pair) (qs : List model.Pair) (b : Bool) → s ≡ s′ → pairs-of ps ≡ qs → b ≡ all-hold s (pairs-of ps) → all-hold s′ qs ≡ b
+said-of s s′ ps qs b es eps h = sym (h ∙ ap (λ (t : Scene). all-hold t (pairs-of ps)) es ∙ ap (all-hold s′) eps)
 
 module _ (c : Contents) (xs : List (Option Move)) (seen : c .slots ≡ map slot-of xs) (n : ℕ) where
   abbrev by-conditions : Option model.Move → Result ℕ ℕ

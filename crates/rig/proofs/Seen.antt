@@ -17,11 +17,11 @@ use Rattle.model.specs.Moves as model
 use Rattle.model.specs.Refusals.{Check, refuse, answer}
 use Rattle.model.specs.Contents.{Contents, slot}
 use Rattle.model.specs.Calls.{no-slot, vacant, in-use}
-use Rattle.rig.specs.declared.moves.Move.{Move}
-use Rattle.rig.specs.declared.fault.RigFault.{RigFault}
-use Rattle.rig.specs.declared.fault.RigFault.the-variants.{NumberHigh, SlotInUse, SlotVacant}
-use Rattle.rig.specs.Faults.{number}
-use Rattle.rig.specs.Views.{move-of, slot-of}
+use Rattle.moves.specs.declared.entry.Move.{Move}
+use Rattle.moves.specs.declared.fault.RigFault.{RigFault}
+use Rattle.moves.specs.declared.fault.RigFault.the-variants.{NumberHigh, SlotInUse, SlotVacant}
+use Rattle.moves.specs.Faults.{number}
+use Rattle.moves.specs.Views.{move-of, slot-of}
 use Rattle.rig.specs.Slots.{or-vacant, in-use-at, or-in-use, vacant-at}
 
 pub slot-at : (xs : List (Option Move)) (n : ℕ) → getD (map slot-of xs) n None ≡ slot-of (getD xs n None)

@@ -13,12 +13,12 @@ use Rattle.std.proofs.shelf.Lists.{refilled-is, map-set}
 use Rattle.model.specs.Scenes.{Shape}
 use Rattle.model.specs.Moves as model
 use Rattle.model.specs.Calls.{lawful-slot}
-use Rattle.rig.specs.declared.moves.Move.{Move}
-use Rattle.rig.specs.Views.{slot-of}
+use Rattle.moves.specs.declared.entry.Move.{Move}
+use Rattle.moves.specs.Views.{slot-of}
 use Rattle.rig.proofs.Keeping.{Slots-lawful, slots-set}
 
 module _ (v : Vec (Option Move) Global) (lent ws : List (Option Move)) (n : ℕ) (o : Option Move)
-  (value : lent ≡ vec-items v) (len : length ws ≡ vec-len v) (put : ws ≡ set lent n o) where
+    (value : lent ≡ vec-items v) (len : length ws ≡ vec-len v) (put : ws ≡ set lent n o) where
   pub slot-written : vec-items (refilled v ws) ≡ set (vec-items v) n o
   slot-written = refilled-is v ws len ∙ put ∙ ap (λ (l : List (Option Move)). set l n o) value
 

@@ -14,11 +14,11 @@ use Rattle.model.specs.Masks.{all-of}
 use Rattle.model.specs.Contents.{Name}
 use Rattle.model.specs.Calls.{opens, opened}
 use Rattle.rig.specs.declared.devices.Devices.{Devices}
-use Rattle.rig.specs.declared.fault.RigFault.{RigFault}
+use Rattle.moves.specs.declared.fault.RigFault.{RigFault}
 use Rattle.rig.specs.declared.frame.Rig.{Rig}
-use Rattle.rig.specs.declared.moves.Move.{Move}
+use Rattle.moves.specs.declared.entry.Move.{Move}
 use Rattle.rig.specs.declared.unopened.Unopened.{Unopened}
-use Rattle.rig.specs.Faults.{number}
+use Rattle.moves.specs.Faults.{number}
 use Rattle.rig.specs.Rigs.{contents}
 
 -- devices as they are handed in, each setting of them wanted

@@ -4,7 +4,7 @@ use Rattle.std.specs.Of.Vec.{vec-items}
 use Rattle.lists.specs.Shorts.{listed}
 use Rattle.model.specs.Contents.{Contents}
 use Rattle.rig.specs.declared.frame.Rig.{Rig}
-use Rattle.rig.specs.Views.{slot-of}
+use Rattle.moves.specs.Views.{slot-of}
 
 abbrev pub contents : Rig → Contents
 contents r =

@@ -1,15 +1,15 @@
 //! Add and retime: the calls that hand in a move or its times.
 ghost use mathlib.Core.Path.{_≡_};
 ghost use Rattle.model.specs.Calls.{adds, added, retimes, retimed};
-ghost use Rattle.rig.specs.Faults.{numbered};
+ghost use Rattle.moves.specs.Faults.{numbered};
 ghost use Rattle.rig.specs.Rigs.{contents};
-ghost use Rattle.rig.specs.Views.{charges-of, draft-of};
-use crate::draft::Charge;
-use crate::draft::Draft;
-use crate::fault::RigFault;
+ghost use Rattle.drafts.specs.Drafts.{charges-of, draft-of};
 use crate::frame::Rig;
-use crate::lawful::lawful_times;
 use crate::slots::*;
+use drafts::draft::Charge;
+use drafts::draft::Draft;
+use drafts::lawful::lawful_times;
+use moves::fault::RigFault;
 
 impl Rig {
     /// Puts a move into the vacant slot that the caller numbers.

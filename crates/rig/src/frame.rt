@@ -7,9 +7,9 @@ ghost use Rattle.std.specs.declared.option.Option.the-variants.{None};
 ghost use Rattle.lists.specs.Shorts.{listed};
 ghost use Rattle.model.specs.Refusals.{passes};
 ghost use Rattle.model.specs.Calls.{open-checks, want-checks, lawful-slot};
-ghost use Rattle.rig.specs.Views.{slot-of};
+ghost use Rattle.moves.specs.Views.{slot-of};
 use crate::devices::Devices;
-use crate::moves::Move;
+use moves::entry::Move;
 
 /// A rig: the devices as they stand, and a table of moves. What it holds is always what its calls can leave.
 #[derive(Drop)]

@@ -1,21 +1,12 @@
-//! A rig: the devices of a dome, the moves that reset them, and the calls that open, change and perform.
+//! A rig: the devices of a dome, a table of the moves that reset them, and the calls that open, change and perform.
 pub mod devices;
-pub mod draft;
 pub mod edit;
-pub mod fault;
 pub mod frame;
-pub mod limits;
-pub mod moves;
+mod masks;
 pub mod open;
-pub mod pair;
+mod opening;
 pub mod perform;
+mod slots;
 pub mod unopened;
 pub mod view;
 pub mod want;
-mod bounded;
-mod judge;
-mod lawful;
-mod masks;
-mod opening;
-mod scene;
-mod slots;

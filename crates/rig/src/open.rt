@@ -12,15 +12,15 @@ ghost use Rattle.model.specs.Scenes.{shape-off};
 ghost use Rattle.model.specs.Masks.{all-of};
 ghost use Rattle.rig.specs.Openings.{Stood, Opened};
 use crate::devices::Devices;
-use crate::fault::RigFault;
 use crate::frame::Rig;
-use crate::limits::*;
-use crate::moves::Move;
 use crate::opening::judge_opening;
 use crate::slots::vacate;
 use crate::unopened::Unopened;
+use lists::limits::*;
 use lists::names::Name;
 use lists::short::Short;
+use moves::entry::Move;
+use moves::fault::RigFault;
 
 /// The mask that admits every setting of a device with so many.
 fn mask_of_all(settings: u8) -> u8
@@ -44,7 +44,12 @@ fn all_masks(settings: &Short<u8, MOST_DEVICES>) -> Short<u8, MOST_DEVICES>
 
 impl Devices {
     /// The devices of an opening that nothing is wrong with.
-    fn open(settings: &[u8], names: &[Name], scene: &[u8], slots: usize) -> Result<Devices, RigFault>
+    fn open(
+        settings: &[u8],
+        names: &[Name],
+        scene: &[u8],
+        slots: usize,
+    ) -> Result<Devices, RigFault>
         ensures { λ r. ⌜ Stood (now (settings .entry)) (now (names .entry)) (now (scene .entry)) slots r ⌝ }
     {
         judge_opening(settings, names, scene, slots)?;
@@ -58,14 +63,24 @@ impl Devices {
             return Err(RigFault::CountsOff);
         };
         let masks = all_masks(&settings);
-        Ok(Devices { settings, names, scene, masks })
+        Ok(Devices {
+            settings,
+            names,
+            scene,
+            masks,
+        })
     }
 }
 
 impl Rig {
     /// A rig of these devices over a table of move slots that is handed over. It makes every slot vacant and wants
     /// every setting. A refusal hands the table back as it was.
-    pub fn open(settings: &[u8], names: &[Name], scene: &[u8], slots: Vec<Option<Move>>) -> Result<Rig, Unopened>
+    pub fn open(
+        settings: &[u8],
+        names: &[Name],
+        scene: &[u8],
+        slots: Vec<Option<Move>>,
+    ) -> Result<Rig, Unopened>
         ensures { λ r. ⌜ Opened (now (settings .entry)) (now (names .entry)) (now (scene .entry)) slots r ⌝ }
     {
         match Devices::open(settings, names, scene, slots.len()) {

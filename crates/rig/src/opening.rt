@@ -4,35 +4,16 @@ ghost use mathlib.Core.Path.{_≡_};
 ghost use Prim.Native.Nat.{_≤_};
 ghost use lib.Dec.{leb};
 ghost use lib.ListN.{length};
-ghost use Rattle.model.specs.Limits.{outside, least-settings, most-settings, least-byte, most-byte, most-slots};
+ghost use Rattle.model.specs.Limits.{outside, least-byte, most-byte};
 ghost use Rattle.model.specs.Lists.{some, some-two};
-ghost use Rattle.model.specs.Scenes.{shape-off as is-shape-off};
 ghost use Rattle.model.specs.Calls.{counts-off as are-counts-off, opens};
-ghost use Rattle.rig.specs.Faults.{numbered};
+ghost use Rattle.moves.specs.Faults.{numbered};
+use lists::counts::*;
+use lists::limits::*;
 use lists::names::Name;
 use lists::names::NameKeyed;
-use crate::fault::RigFault;
-use crate::limits::*;
 use lists::repeats::first_repeat;
-
-/// Whether a number lies below the least or above the most.
-fn is_outside(least: u8, most: u8, number: u8) -> bool
-    ensures { λ r. ⌜ r ≡ outside least most number ⌝ }
-{
-    number < least || number > most
-}
-
-/// Whether some number does.
-fn some_outside(least: u8, most: u8, numbers: &[u8]) -> bool
-    ensures { λ r. ⌜ r ≡ some (outside least most) (now (numbers .entry)) ⌝ }
-{
-    for number in numbers {
-        if is_outside(least, most, *number) {
-            return true;
-        }
-    }
-    false
-}
+use moves::fault::RigFault;
 
 /// Whether a name has a byte that is not printable.
 fn some_name_off(names: &[Name]) -> bool
@@ -63,12 +44,16 @@ fn some_high(settings: &[u8], scene: &[u8]) -> bool
 fn counts_off(settings: &[u8], names: &[Name], scene: &[u8]) -> bool
     ensures { λ r. ⌜ r ≡ are-counts-off (now (settings .entry)) (now (names .entry)) (now (scene .entry)) ⌝ }
 {
-    let devices = settings.len();
-    devices < 1 || devices > MOST_DEVICES || some_outside(LEAST_SETTINGS, MOST_SETTINGS, settings) || names.len() != devices || scene.len() != devices
+    shape_off(settings) || names.len() != settings.len() || scene.len() != settings.len()
 }
 
 /// The smallest refusal of an opening that holds.
-pub(crate) fn judge_opening(settings: &[u8], names: &[Name], scene: &[u8], slots: usize) -> Result<(), RigFault>
+pub(crate) fn judge_opening(
+    settings: &[u8],
+    names: &[Name],
+    scene: &[u8],
+    slots: usize,
+) -> Result<(), RigFault>
     ensures { λ r. ⌜ numbered r ≡ opens (now (settings .entry)) (now (names .entry)) (now (scene .entry)) slots ⌝ }
 {
     if counts_off(settings, names, scene) {

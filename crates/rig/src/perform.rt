@@ -1,26 +1,27 @@
 //! Perform, withdraw and look: the calls that take one number.
 ghost use mathlib.Core.Path.{_≡_};
-ghost use Rattle.model.specs.Calls.{withdraws, withdrawn, performs, performed, looks};
-ghost use Rattle.rig.specs.Faults.{numbered};
+ghost use Rattle.model.specs.Calls.{withdraws, withdrawn, performs, performed, Moved, looks};
+ghost use Rattle.moves.specs.Faults.{numbered};
 ghost use Rattle.rig.specs.Rigs.{contents};
-use crate::fault::RigFault;
 use crate::frame::Rig;
-use crate::scene::*;
 use crate::slots::*;
+use moves::fault::RigFault;
+use moves::scene::*;
 
 impl Rig {
     /// Carries out a move whose conditions hold, and answers its time in tenths of a second.
     pub fn perform(&mut self, number: usize) -> Result<u32, RigFault>
         ensures answer { λ r. ⌜ numbered r ≡ performs (contents (now (self .entry))) number ⌝ }
         ensures left { λ _. ⌜ contents (now (self .exit)) ≡ performed (contents (now (self .entry))) number ⌝ }
+        ensures moved { λ r. ⌜ Moved (contents (now (self .entry))) number (numbered r) (contents (now (self .exit))) ⌝ }
     {
         let entry = occupied(self.slots.as_slice(), number)?;
         let mut scene = self.devices.scene;
-        if !every_holds(entry.conditions.as_slice(), scene.as_slice()) {
+        if !every_holds(entry.conditions(), scene.as_slice()) {
             return Err(RigFault::ConditionUnmet);
         }
         let time = entry.time(scene.as_slice());
-        apply(entry.effects.as_slice(), &mut scene);
+        apply(entry.effects(), &mut scene);
         self.devices.scene = scene;
         Ok(time)
     }

@@ -1,14 +1,17 @@
 //! The table of move slots, lent as a slice: one slot is read or rewritten by its number.
 ghost use Prim.Native.Nat.{ℕ, _<_};
+ghost use mathlib.Core.List.{map};
 ghost use mathlib.Core.Path.{_≡_};
 ghost use lib.ListN.{length, getD, set, replicate};
 ghost use Rattle.std.specs.declared.option.Option.the-variants.{None};
-ghost use Rattle.rig.specs.Slots.{in-use-at, vacant-at, with-times, slot-with-times};
-use crate::fault::RigFault;
-use crate::limits::*;
-use crate::moves::Move;
-use crate::moves::Surcharge;
+ghost use Rattle.lists.specs.Shorts.{listed};
+ghost use Rattle.moves.specs.Views.{surcharge-of};
+ghost use Rattle.rig.specs.Slots.{in-use-at, vacant-at, Retimed};
+use lists::limits::*;
 use lists::short::Short;
+use moves::entry::Move;
+use moves::entry::Surcharge;
+use moves::fault::RigFault;
 
 /// The move in a slot.
 pub(crate) fn occupied(slots: &[Option<Move>], number: usize) -> Result<Move, RigFault>
@@ -46,20 +49,15 @@ pub(crate) fn store(slots: &mut [Option<Move>], number: usize, entry: Option<Mov
     slots[number] = entry;
 }
 
-impl Move {
-    /// Replaces the base and the surcharges.
-    fn retime(&mut self, base: u16, surcharges: Short<Surcharge, MOST_SURCHARGES>)
-        ensures { λ _. ⌜ now (self .exit) ≡ with-times base surcharges (now (self .entry)) ⌝ }
-    {
-        self.base = base;
-        self.surcharges = surcharges;
-    }
-}
-
 /// Replaces the base and the surcharges of the move in a slot, if it has one.
-pub(crate) fn retime(slots: &mut [Option<Move>], number: usize, base: u16, surcharges: Short<Surcharge, MOST_SURCHARGES>)
+pub(crate) fn retime(
+    slots: &mut [Option<Move>],
+    number: usize,
+    base: u16,
+    surcharges: Short<Surcharge, MOST_SURCHARGES>,
+)
     requires { ⌜ number < length (now slots) ⌝ }
-    ensures { λ _. ⌜ now (slots .exit) ≡ set (now (slots .entry)) number (slot-with-times base surcharges (getD (now (slots .entry)) number None)) ⌝ }
+    ensures { λ _. ⌜ Retimed base (map surcharge-of (listed surcharges)) number (now (slots .entry)) (now (slots .exit)) ⌝ }
 {
     let slot = slots[number];
     if let Some(mut entry) = slot {

@@ -1,5 +1,5 @@
-use crate::fault::RigFault;
-use crate::moves::Move;
+use moves::entry::Move;
+use moves::fault::RigFault;
 
 /// A refused opening: why, and the table of slots as it was handed over.
 #[derive(Drop)]

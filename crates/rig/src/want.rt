@@ -1,19 +1,20 @@
 //! Want, and whether the present scene is wanted.
 ghost use mathlib.Core.Path.{_≡_};
 ghost use Rattle.model.specs.Masks.{wanted};
-ghost use Rattle.model.specs.Calls.{wants, wanting};
-ghost use Rattle.rig.specs.Faults.{numbered};
+ghost use Rattle.model.specs.Calls.{wants, wanting, Counts-wanted};
+ghost use Rattle.moves.specs.Faults.{numbered};
 ghost use Rattle.rig.specs.Rigs.{contents};
-use crate::fault::RigFault;
 use crate::frame::Rig;
 use crate::masks::*;
 use lists::short::Short;
+use moves::fault::RigFault;
 
 impl Rig {
     /// Takes a mask for each device, and answers how many scenes are wanted.
     pub fn want(&mut self, masks: &[u8]) -> Result<u64, RigFault>
         ensures answer { λ r. ⌜ numbered r ≡ wants (contents (now (self .entry))) (now (masks .entry)) ⌝ }
         ensures left { λ _. ⌜ contents (now (self .exit)) ≡ wanting (contents (now (self .entry))) (now (masks .entry)) ⌝ }
+        ensures counted { λ r. ⌜ Counts-wanted (contents (now (self .entry))) (now (masks .entry)) (numbered r) ⌝ }
     {
         let settings = self.devices.settings;
         if masks.len() != settings.as_slice().len() {

@@ -3,6 +3,7 @@ ghost use Rattle.model.specs.Shelves.{Meaning, Sound, does, done, wipes, wiped,
 ghost use Rattle.model.specs.Shelves.{dial as a-dial, cheaper as a-cheaper, sum as a-sum, put as a-put};
 ghost use Rattle.shelf.specs.Faults.{numbered};
 use crate::fault::ShelfFault;
+use lists::limits::MOST_SETTINGS;
 
 /// A store of eight charts: functions from the scenes of one shape to a time, or never.
 ///
@@ -17,7 +18,12 @@ pub trait Shelf {
 
     /// Hangs the chart that gives a scene the entry of the device's setting. Entries past its last setting are
     /// not read.
-    fn dial(&mut self, target: u8, device: u8, entries: &[Option<u64>; 8]) -> Result<(), ShelfFault>
+    fn dial(
+        &mut self,
+        target: u8,
+        device: u8,
+        entries: &[Option<u64>; MOST_SETTINGS],
+    ) -> Result<(), ShelfFault>
         ensures answer { λ r. ⌜ numbered r ≡ does (meaning (now (self .entry))) (a-dial target device (now (entries .entry))) ⌝ }
         ensures left { λ _. ⌜ meaning (now (self .exit)) ≡ done (meaning (now (self .entry))) (a-dial target device (now (entries .entry))) ⌝ };
 

@@ -2,42 +2,20 @@ ghost use mathlib.Core.Path.{_≡_};
 ghost use mathlib.Core.Bool.{false};
 ghost use Prim.Native.Nat.{_^_, _≤_};
 ghost use lib.ListN.{length};
-ghost use Rattle.model.specs.Limits.{outside, least-settings, most-settings};
+ghost use Rattle.model.specs.Limits.{outside, least-settings, most-settings, most-devices};
 ghost use Rattle.model.specs.Lists.{some};
 ghost use Rattle.model.specs.Refusals.{answer};
-ghost use Rattle.model.specs.Scenes.{shape-off, size, rank};
+ghost use Rattle.model.specs.Scenes.{size, rank};
 ghost use Rattle.model.specs.Shelves.{scene-checks};
 ghost use Rattle.shelf.specs.Faults.{numbered};
 use crate::fault::ShelfFault;
-use crate::limits::LEAST_SETTINGS;
-use crate::limits::MOST_DEVICES;
-use crate::limits::MOST_SETTINGS;
-
-/// Whether some device has too few or too many settings.
-fn some_off(settings: &[u8]) -> bool
-    ensures value { λ r. ⌜ r ≡ some (outside least-settings most-settings) (now (settings .entry)) ⌝ }
-{
-    for count in settings {
-        if *count < LEAST_SETTINGS || *count > MOST_SETTINGS {
-            return true;
-        }
-    }
-    false
-}
-
-/// Whether the number of devices, or the number of settings of one, is outside its limits.
-pub fn counts_off(settings: &[u8]) -> bool
-    ensures value { λ r. ⌜ r ≡ shape-off (now (settings .entry)) ⌝ }
-{
-    settings.len() < 1 || settings.len() > MOST_DEVICES || some_off(settings)
-}
 
 /// How many scenes devices with these counts of settings have.
-pub fn scenes(settings: &[u8]) -> usize
-    requires few { ⌜ length (now settings) ≤ 12 ⌝ }
+pub(crate) fn scenes(settings: &[u8]) -> usize
+    requires few { ⌜ length (now settings) ≤ most-devices ⌝ }
     requires legal { ⌜ some (outside least-settings most-settings) (now settings) ≡ false ⌝ }
     ensures value { λ r. ⌜ r ≡ size (now (settings .entry)) ⌝ }
-    ensures bound { λ r. ⌜ r ≤ 8 ^ 12 ⌝ }
+    ensures bound { λ r. ⌜ r ≤ most-settings ^ most-devices ⌝ }
 {
     let mut product = 1;
     for count in settings {
@@ -47,8 +25,8 @@ pub fn scenes(settings: &[u8]) -> usize
 }
 
 /// The place of a scene among all of them, device 0 slowest.
-pub fn place(settings: &[u8], scene: &[u8]) -> Result<usize, ShelfFault>
-    requires few { ⌜ length (now settings) ≤ 12 ⌝ }
+pub(crate) fn place(settings: &[u8], scene: &[u8]) -> Result<usize, ShelfFault>
+    requires few { ⌜ length (now settings) ≤ most-devices ⌝ }
     requires legal { ⌜ some (outside least-settings most-settings) (now settings) ≡ false ⌝ }
     ensures answer { λ r. ⌜ numbered r ≡ answer (scene-checks (now (settings .entry)) (now (scene .entry))) (rank (now (settings .entry)) (now (scene .entry))) ⌝ }
 {

@@ -1,13 +1,19 @@
 ghost use Rattle.shelf.specs.Sides.{on-either};
 use crate::calls::Shelf;
 use crate::fault::ShelfFault;
+use lists::limits::MOST_SETTINGS;
 use crate::sides::Either;
 
 /// One of two shelves means what that one means, and answers as it answers.
 pub impl<A: Shelf, B: Shelf> Shelf for Either<A, B> as EitherShelf {
     ghost meaning = { on-either (A·Shelf .meaning) (B·Shelf .meaning) };
 
-    fn dial(&mut self, target: u8, device: u8, entries: &[Option<u64>; 8]) -> Result<(), ShelfFault> {
+    fn dial(
+        &mut self,
+        target: u8,
+        device: u8,
+        entries: &[Option<u64>; MOST_SETTINGS],
+    ) -> Result<(), ShelfFault> {
         match self {
             Either::One(a) => a.dial(target, device, entries),
             Either::Other(b) => b.dial(target, device, entries),

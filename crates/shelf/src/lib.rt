@@ -1,7 +1,7 @@
 // Charts on pegs: the calls that every shelf answers, what they mean, and how they refuse.
 pub mod calls;
-pub mod counts;
+mod counts;
 pub mod either;
 pub mod fault;
-pub mod limits;
+pub mod shape;
 pub mod sides;

@@ -77,7 +77,7 @@ lawful-with-slot c n o h e =
 by-answer : {T : Type 0} (r : Result T ℕ) (new old : Contents) → Lawful old → ((x : T) → r ≡ Ok x → Lawful new) → Lawful (left-by r new old)
 by-answer r new old h k = left-either r new old Lawful k h
 
-retimed-slot : (ns : Shape) (base : ℕ) (xs : List Surcharge) (o : Option Move) → lawful-slot ns o ≡ true → passes (timing-checks ns base xs) ≡ true → lawful-slot ns (in-slot (λ m. Some (retiming base xs m)) None o) ≡ true
+pub retimed-slot : (ns : Shape) (base : ℕ) (xs : List Surcharge) (o : Option Move) → lawful-slot ns o ≡ true → passes (timing-checks ns base xs) ≡ true → lawful-slot ns (in-slot (λ m. Some (retiming base xs m)) None o) ≡ true
 retimed-slot ns base xs None h k = refl
 retimed-slot ns base xs (Some m) h k = retiming-lawful ns base xs m h k
 

@@ -11,3 +11,5 @@ pub mod Best
 pub mod Keeping
 pub mod Opening
 pub mod Alikes
+pub mod Moving
+pub mod Counting

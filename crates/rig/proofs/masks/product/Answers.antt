@@ -28,12 +28,13 @@ mul-product c =
 
 pub loop-mask-again : need.loop-mask-again
 loop-mask-again c =
-    let rest = product-of-ones (drop (c .loop-mask .mask-index + 1) (c .args .masks .now)) in
-    ( ap (λ (o : ℕ). c .loop-mask .product * o * rest) (c .from-product .ensures)
-      ∙ mul-assoc (c .loop-mask .product) (ones (getD (c .args .masks .now) (c .loop-mask .mask-index) 0)) rest
-      ∙ ap (λ (o : ℕ). c .loop-mask .product * o) (sym (at-drop-more product-of-ones (c .args .masks .now) (c .loop-mask .mask-index) 0 (c .loop-mask-test .taken)))
-      ∙ c .loop-mask .inv .0
-    , next c)
+    let rest = product-of-ones (drop (c .loop-mask .mask-index + 1) (c .args .masks .now)) in (
+      ap (λ (o : ℕ). c .loop-mask .product * o * rest) (c .from-product .ensures)
+          ∙ mul-assoc (c .loop-mask .product) (ones (getD (c .args .masks .now) (c .loop-mask .mask-index) 0)) rest
+          ∙ ap (λ (o : ℕ). c .loop-mask .product * o) (sym (at-drop-more product-of-ones (c .args .masks .now) (c .loop-mask .mask-index) 0 (c .loop-mask-test .taken)))
+          ∙ c .loop-mask .inv .0,
+      next c,
+    )
 
 pub returns : need.returns
 returns c =

@@ -6,7 +6,7 @@ use lib.ListN.{length, replicate}
 use Rattle.std.proofs.shelf.Lists.{take-more-set, take-all, replicate-append-replicate}
 use Rattle.std.specs.declared.option.Option.{Option}
 use Rattle.std.specs.declared.option.Option.the-variants.{None}
-use Rattle.rig.specs.declared.moves.Move.{Move}
+use Rattle.moves.specs.declared.entry.Move.{Move}
 use Rattle.rig.proofs.slots.vacate.Needs as need
 
 pub loop-slot-again : need.loop-slot-again

@@ -12,8 +12,9 @@ use Rattle.lists.specs.Shorts.{listed}
 use Rattle.model.specs.Moves as model
 use Rattle.model.specs.Contents.{with-slots}
 use Rattle.model.specs.Calls.{adds, move-checks}
-use Rattle.rig.specs.Faults.{number}
-use Rattle.rig.specs.Views.{slot-of, draft-of}
+use Rattle.moves.specs.Faults.{number}
+use Rattle.moves.specs.Views.{slot-of}
+use Rattle.drafts.specs.Drafts.{draft-of}
 use Rattle.rig.specs.Rigs.{contents}
 use Rattle.rig.proofs.Answering.{refused-by, accepted-left}
 use Rattle.rig.proofs.Editing.{adds-judged, move-lawful}
@@ -57,7 +58,7 @@ ghost-self c =
     let fits = c .in-Continue-entry .ensures tt in
     let law = move-lawful (c .as-slice-2 .result .now) (listed (s .devices .settings)) (draft-of (c .args .draft .now)) _ (c .as-slice-2 .ensures .value) (fits .1) (fits .0) in
     let slots = written-lawful (s .slots) (c .as-mut-slice .result .now) (c .store .last .slots) (c .args .number) (Some m) (c .as-mut-slice .ensures .value) len (c .store .ensures)
-      (listed (s .devices .settings)) (s .moves) law in
+    (listed (s .devices .settings)) (s .moves) law in
     (s .opened, (s .wanted, (slots, tt)))
 
 pub returns : need.returns

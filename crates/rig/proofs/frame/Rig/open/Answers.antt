@@ -10,7 +10,7 @@ use Rattle.std.specs.declared.option.Option.the-variants.{None}
 use Rattle.std.specs.declared.result.Result.the-variants.{Ok}
 use Rattle.std.proofs.shelf.Lists.{refilled-is}
 use Rattle.model.specs.Calls.{opens}
-use Rattle.rig.specs.Views.{slot-of}
+use Rattle.moves.specs.Views.{slot-of}
 use Rattle.rig.proofs.Keeping.{held-opens, held-moves}
 use Rattle.rig.proofs.OpeningSeen.{vacated-seen, opened-seen, opened-lawful}
 use Rattle.rig.proofs.frame.Rig.open.Needs as need

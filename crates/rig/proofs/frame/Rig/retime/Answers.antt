@@ -13,13 +13,13 @@ use Rattle.lists.specs.Shorts.{listed}
 use Rattle.model.specs.Moves as model
 use Rattle.model.specs.Contents.{with-slots}
 use Rattle.model.specs.Calls.{retimes, retiming, timing-checks, in-slot, lawful-slot}
-use Rattle.rig.specs.declared.moves.Move.{Move}
-use Rattle.rig.specs.Faults.{number}
-use Rattle.rig.specs.Views.{slot-of, charges-of}
-use Rattle.rig.specs.Slots.{slot-with-times}
+use Rattle.moves.specs.declared.entry.Move.{Move}
+use Rattle.moves.specs.Faults.{number}
+use Rattle.moves.specs.Views.{slot-of}
+use Rattle.drafts.specs.Drafts.{charges-of}
 use Rattle.rig.specs.Rigs.{contents}
 use Rattle.rig.proofs.Answering.{refused-by, accepted-left}
-use Rattle.rig.proofs.Editing.{retimes-judged, retimed-seen, retimed-lawful}
+use Rattle.rig.proofs.Editing.{retimes-judged, retimed-lawful}
 use Rattle.rig.proofs.Seen.{no-move, move-within, slot-seen}
 use Rattle.rig.proofs.Writing.{slot-seen-written, written-lawful}
 use Rattle.rig.proofs.frame.Rig.retime.Needs as need
@@ -58,15 +58,16 @@ ghost-self c =
     let n = c .args .number in
     let ns = listed (s .devices .settings) in
     let lent = c .as-mut-slice .result .now in
-    let short = c .in-Continue-surcharges .surcharges in
     let fits = c .in-Continue-surcharges .ensures tt in
     let seen = ap (map slot-of) (sym (c .as-slice .ensures .value)) in
     let len : length (c .retime .last .slots) ≡ vec-len (s .slots) = search needs in
     let lt = move-within (contents s) (c .as-slice .result .now) seen n (c .in-Continue-occupied .field-0) (c .in-Continue-occupied .ensures tt) in
     let in-range : n < vec-len (s .slots) = omega (arith, lt, c .as-slice .ensures .len) in
     let was = subst (λ (l : List (Option Move)). lawful-slot ns (slot-of (getD l n None)) ≡ true) (sym (c .as-mut-slice .ensures .value)) (s .moves n in-range) in
-    let law = retimed-lawful (c .args .base) short (charges-of (c .args .charges .now)) (fits .1) (c .as-slice-2 .result .now) ns (c .as-slice-2 .ensures .value) (fits .0) (getD lent n None) was in
-    let slots = written-lawful (s .slots) lent (c .retime .last .slots) n (slot-with-times (c .args .base) short (getD lent n None)) (c .as-mut-slice .ensures .value) len (c .retime .ensures) ns (s .moves) law in
+    let new = c .retime .ensures in
+    let seen-so = new .seen ∙ ap (λ (ys : List model.Surcharge). in-slot (λ m. Some (retiming (c .args .base) ys m)) None (slot-of (getD lent n None))) (fits .1) in
+    let law = retimed-lawful (c .args .base) (charges-of (c .args .charges .now)) (c .as-slice-2 .result .now) ns (c .as-slice-2 .ensures .value) (fits .0) (getD lent n None) (new .slot) seen-so was in
+    let slots = written-lawful (s .slots) lent (c .retime .last .slots) n (new .slot) (c .as-mut-slice .ensures .value) len (new .put) ns (s .moves) law in
     (s .opened, (s .wanted, (slots, tt)))
 
 pub returns : need.returns
@@ -76,12 +77,13 @@ returns c =
     let base = c .args .base in
     let ys = charges-of (c .args .charges .now) in
     let lent = c .as-mut-slice .result .now in
-    let short = c .in-Continue-surcharges .surcharges in
     let fits = c .in-Continue-surcharges .ensures tt in
     let seen = ap (map slot-of) (sym (c .as-slice .ensures .value)) in
     let len : length (c .retime .last .slots) ≡ vec-len (s .slots) = search needs in
     let w = retimes-judged (contents s) (c .as-slice .result .now) seen n base ys (c .as-slice-2 .result .now) (c .as-slice-2 .ensures .value) (Ok tt) (c .in-Continue-occupied .field-0) (c .in-Continue-occupied .ensures tt) (fits .0) in
-    let slots = slot-seen-written (s .slots) lent (c .retime .last .slots) n (slot-with-times base short (getD lent n None)) (c .as-mut-slice .ensures .value) len (c .retime .ensures) in
-    let put = ap (set (contents s .slots) n) (retimed-seen base short ys (fits .1) (getD lent n None)
-      ∙ ap (in-slot (λ m. Some (retiming base ys m)) None) (sym (slot-seen (contents s) lent (ap (map slot-of) (sym (c .as-mut-slice .ensures .value))) n))) in
+    let new = c .retime .ensures in
+    let seen-so = new .seen ∙ ap (λ (zs : List model.Surcharge). in-slot (λ m. Some (retiming base zs m)) None (slot-of (getD lent n None))) (fits .1) in
+    let slots = slot-seen-written (s .slots) lent (c .retime .last .slots) n (new .slot) (c .as-mut-slice .ensures .value) len (new .put) in
+    let put = ap (set (contents s .slots) n) (seen-so
+    ∙ ap (in-slot (λ m. Some (retiming base ys m)) None) (sym (slot-seen (contents s) lent (ap (map slot-of) (sym (c .as-mut-slice .ensures .value))) n))) in
     record { answer = sym w; left = accepted-left (retimes (contents s) n base ys) _ (contents s) tt w _ (ap (with-slots (contents s)) (slots ∙ put)) }

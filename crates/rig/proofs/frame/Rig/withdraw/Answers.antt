@@ -12,8 +12,8 @@ use Rattle.std.proofs.shelf.Lists.{refilled-is, map-set}
 use Rattle.lists.specs.Shorts.{listed}
 use Rattle.model.specs.Contents.{with-slots}
 use Rattle.model.specs.Calls.{withdraws}
-use Rattle.rig.specs.declared.moves.Move.{Move}
-use Rattle.rig.specs.Views.{slot-of}
+use Rattle.moves.specs.declared.entry.Move.{Move}
+use Rattle.moves.specs.Views.{slot-of}
 use Rattle.rig.specs.Rigs.{contents}
 use Rattle.rig.proofs.Answering.{refused-by, accepted-left}
 use Rattle.rig.proofs.Seen.{no-move, move-passed, move-within}
@@ -41,7 +41,7 @@ ghost-self c =
     let s = c .args .self .now in
     let len : length (c .store .last .slots) ≡ vec-len (s .slots) = search needs in
     let slots = written-lawful (s .slots) (c .as-mut-slice .result .now) (c .store .last .slots) (c .args .number) None (c .as-mut-slice .ensures .value) len (c .store .ensures)
-      (listed (s .devices .settings)) (s .moves) refl in
+    (listed (s .devices .settings)) (s .moves) refl in
     (s .opened, (s .wanted, (slots, tt)))
 
 pub returns : need.returns

@@ -1,0 +1,20 @@
+use mathlib.Core.Path.{sym, _∙_}
+use mathlib.Core.Bool.{true, false}
+use Rattle.model.specs.Calls.{setting-high}
+use Rattle.moves.specs.Views.{pair-of}
+use Rattle.lists.proofs.Loops.{some-seen, some-seen-all}
+use Rattle.drafts.proofs.judge.some_setting_high.Needs as need
+
+pub returns-then-is-setting-high : need.returns-then-is-setting-high
+returns-then-is-setting-high c =
+    sym (some-seen (setting-high (c .args .settings .now)) pair-of (c .args .pairs .now) (c .loop-pair .pair-index) _ true (c .loop-pair-test .taken) (c .if-is-setting-high .ensures tt))
+    ∙ c .loop-pair .inv
+
+pub loop-pair-again : need.loop-pair-again
+loop-pair-again c =
+    sym (some-seen (setting-high (c .args .settings .now)) pair-of (c .args .pairs .now) (c .loop-pair .pair-index) _ false (c .loop-pair-test .taken) (c .if-is-setting-high .ensures tt))
+    ∙ c .loop-pair .inv
+
+pub returns : need.returns
+returns c =
+    sym (some-seen-all (setting-high (c .args .settings .now)) pair-of (c .args .pairs .now) (c .loop-pair .pair-index) (c .loop-pair-test .left)) ∙ c .loop-pair .inv

@@ -1,0 +1,2 @@
+// The flat shelf: a cell for each scene and peg.
+pub mod store;

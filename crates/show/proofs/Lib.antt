@@ -1,0 +1,3 @@
+-- two plans of rigs that are alike: Agreements; one cue more: Turns
+pub mod Agreements
+pub mod Turns
