@@ -31,7 +31,7 @@ joined-counting f g a (suc n) h =
     λ i. p i ++ q i
 
 -- an entry by its piece
-at-piece : (n m x r : ℕ) (c : Chart) → x < n → r < m → getD c (x * m + r) None ≡ getD (getD (pieces n m c) x []) r None
+pub at-piece : (n m x r : ℕ) (c : Chart) → x < n → r < m → getD c (x * m + r) None ≡ getD (getD (pieces n m c) x []) r None
 at-piece zero m x r c h k = absurd (omega arith)
 at-piece (suc n) m zero r c h k = ap (λ i. getD c i None) (let z : 0 * m + r ≡ r = omega arith in z) ∙ sym (getD-take m c r None k)
 at-piece (suc n) m (suc x) r c h k = ap (λ i. getD c i None) (let z : suc x * m + r ≡ m + (x * m + r) = omega (arith, suc-mul x m) in z) ∙ sym (getD-drop m c (x * m + r) None) ∙ at-piece n m x r (drop m c) (omega arith) k
@@ -59,7 +59,7 @@ put-below n v d ns c vl dl =
         (λ s h. at-piece n (size ns) x (rank ns (set s v d)) c (omega arith) (rank-less ns (set s v d) (set-scene ns s v d h vl dl))))
 
 -- a put of a chart that is later
-getD-later : (w : Time) (c : Chart) (k : ℕ) → plus w None ≡ None → getD (later w c) k None ≡ plus w (getD c k None)
+pub getD-later : (w : Time) (c : Chart) (k : ℕ) → plus w None ≡ None → getD (later w c) k None ≡ plus w (getD c k None)
 getD-later w [] k h = sym h
 getD-later w (x ∷ c) zero h = refl
 getD-later w (x ∷ c) (suc k) h = getD-later w c k h
