@@ -63,7 +63,7 @@ pub answer-leaf : (op : Op) (nodes : List (Option Node)) (shape : Shape) (l : �
 answer-leaf op nodes shape l a b wa wb ws at ha hb hw =
     let e : Edge = record { weight = Some (ws .base); child = 0 } in
     subst (λ (t : Shape). Fine nodes t l e × (chart nodes t e ≡ zipped (entry op) (chart nodes t a) (chart nodes t b))) (sym (drop-all l shape (omega arith)))
-      (refl, ap (λ (v : Time). v ∷ []) (ap (λ (w : Weights). Some (w .base)) hw ∙ sym (split-base op wa wb) ∙ sym (λ i. entry op (ha i) (hb i))))
+    (refl, ap (λ (v : Time). v ∷ []) (ap (λ (w : Weights). Some (w .base)) hw ∙ sym (split-base op wa wb) ∙ sym (λ i. entry op (ha i) (hb i))))
 
 -- the lesser of two edges to one node
 pub answer-same : (op : Op) (nodes : List (Option Node)) (shape : Shape) (l : ℕ) (a b : Edge) (wa wb : ℕ) (ws : Weights) → op ≡ Cheaper → a .child ≡ b .child → a .weight ≡ Some wa → b .weight ≡ Some wb → ws ≡ split-of op wa wb → Fine nodes (drop l shape) l a → Stands nodes shape l (goal op nodes shape l a b) (record { weight = Some (ws .base); child = a .child })
@@ -74,6 +74,7 @@ answer-same op nodes shape l a b wa wb ws ho hc ha hb hw fa =
     let m : Edge = record { weight = Some (min wa wb); child = a .child } in
     let p : chart nodes ns a ≡ later (Some wa) (chart nodes ns zero-edge) = from-zero nodes ns wa a ha in
     let q : chart nodes ns b ≡ later (Some wb) (chart nodes ns zero-edge) = from-zero nodes ns wb b hb ∙ ap (λ k. later (Some wb) (chart nodes ns (record { weight = Some 0; child = k }))) (sym hc) in
-    subst (λ v. Stands nodes shape l (goal op nodes shape l a b) (record { weight = Some v; child = a .child })) (sym base)
-      (moved-fine nodes ns l wa (min wa wb) a ha fa,
-       from-zero nodes ns (min wa wb) m refl ∙ sym (cheaper-same wa wb (chart nodes ns zero-edge)) ∙ sym (λ i. zipped lesser (p i) (q i)) ∙ ap (λ o. goal o nodes shape l a b) (sym ho))
+    subst (λ v. Stands nodes shape l (goal op nodes shape l a b) (record { weight = Some v; child = a .child })) (sym base) (
+      moved-fine nodes ns l wa (min wa wb) a ha fa,
+      from-zero nodes ns (min wa wb) m refl ∙ sym (cheaper-same wa wb (chart nodes ns zero-edge)) ∙ sym (λ i. zipped lesser (p i) (q i)) ∙ ap (λ o. goal o nodes shape l a b) (sym ho),
+    )

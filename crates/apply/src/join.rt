@@ -45,21 +45,42 @@ pub fn join(
     };
     let weights = split(op, wa, wb);
     if level == settings.len() {
-        return Some(Edge { weight: Some(weights.base), child: 0 });
+        return Some(Edge {
+            weight: Some(weights.base),
+            child: 0,
+        });
     }
     if op == Op::Cheaper && a.child == b.child {
-        return Some(Edge { weight: Some(weights.base), child: a.child });
+        return Some(Edge {
+            weight: Some(weights.base),
+            child: a.child,
+        });
     }
-    let x = Edge { weight: Some(weights.left), child: a.child };
-    let y = Edge { weight: Some(weights.right), child: b.child };
-    let key = Remembered { operation: Operation::Join(op), level: level as u8, left: x, right: y, result: x };
+    let x = Edge {
+        weight: Some(weights.left),
+        child: a.child,
+    };
+    let y = Edge {
+        weight: Some(weights.right),
+        child: b.child,
+    };
+    let key = Remembered {
+        operation: Operation::Join(op),
+        level: level as u8,
+        left: x,
+        right: y,
+        result: x,
+    };
     if let Some(known) = recall(memo, &key) {
         return Some(raise(known, weights.base));
     }
     let left = node_at(nodes, a.child);
     let right = node_at(nodes, b.child);
     let count = settings[level] as usize;
-    let mut kids = [Edge { weight: None, child: 0 }; 8];
+    let mut kids = [Edge {
+        weight: None,
+        child: 0,
+    }; 8];
     for i in 0..count {
         let d = raise(left.edges[i], weights.left);
         let e = raise(right.edges[i], weights.right);
@@ -72,7 +93,13 @@ pub fn join(
     }
     match make(nodes, settings, level, kids) {
         Some(made) => {
-            remember(memo, Remembered { result: made, ..key });
+            remember(
+                memo,
+                Remembered {
+                    result: made,
+                    ..key
+                },
+            );
             Some(raise(made, weights.base))
         }
         None => None,

@@ -23,9 +23,17 @@ pub fn split(op: Op, a: u64, b: u64) -> Weights
     match op {
         Op::Cheaper => {
             let base = a.min(b);
-            Weights { base, left: a - base, right: b - base }
+            Weights {
+                base,
+                left: a - base,
+                right: b - base,
+            }
         }
-        Op::Sum => Weights { base: a + b, left: 0, right: 0 },
+        Op::Sum => Weights {
+            base: a + b,
+            left: 0,
+            right: 0,
+        },
     }
 }
 

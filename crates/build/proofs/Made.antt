@@ -54,8 +54,8 @@ module _ (old new : List (Option Node)) (shape : Shape) (l : ℕ) (kids : List E
       let at = drop-more shape l 0 lt in
       let m : Edge = record { weight = lowest kids; child = i } in
       subst (λ d. Fine new (drop l shape) l d × (chart new (drop l shape) d ≡ together old shape l kids)) is
-        (subst (λ t. Fine new t l m × (chart new t m ≡ together old shape l kids)) (sym at)
-          (made-fine old new shape (ready .store) kept n ns l at kids (ready .few l) k i here, made-chart old new shape (ready .store) kept n ns l at kids (ready .few l) k i here))
+      (subst (λ t. Fine new t l m × (chart new t m ≡ together old shape l kids)) (sym at)
+      (made-fine old new shape (ready .store) kept n ns l at kids (ready .few l) k i here, made-chart old new shape (ready .store) kept n ns l at kids (ready .few l) k i here))
 
 pub make-full : (nodes : List (Option Node)) (shape : Shape) (l : ℕ) (kids : List Edge) (ready : Ready nodes shape) → l < length shape → Kids nodes (getD shape l 0) (drop (l + 1) shape) l kids → Crowded (λ (x y : Node). x ≡ y) nodes (wanted nodes (drop (l + 1) shape) l kids) → Stuck nodes shape l (together nodes shape l kids)
 make-full nodes shape l kids ready lt k c = make-stuck nodes shape (ready .store) (getD shape l 0) (drop (l + 1) shape) l (drop-more shape l 0 lt) kids (ready .few l) k c

@@ -36,7 +36,6 @@ use Rattle.store.proofs.Fits.{name-is}
 use Rattle.build.specs.Builds.{lower-by, wanted, Kids}
 use Rattle.build.proofs.Weights.{none-some, less-none, zeroed-less, zeroed-twice, lowest-lowered, Back, back-all, body-back}
 
-
 lowest-append : (es fs : List Edge) → lowest fs ≡ None → lowest (es ++ fs) ≡ lowest es
 lowest-append [] fs h = h
 lowest-append (e ∷ es) fs h = ap (lesser (e .weight)) (lowest-append es fs h)
@@ -117,8 +116,8 @@ module _ (nodes : List (Option Node)) (shape : Shape) (store : Store nodes shape
       let known = knows-kids nodes shape store l n ns (take n (x .edges)) at (f .kids) in
       let p = parts-each (chart nodes ns) n ns l (lowest kids) (take n (x .edges)) (f .wide) (kids-long nodes n ns (take n (x .edges)) known) (sym (wanted-low nodes n ns l kids few k) ∙ sym (body-low nodes n ns (take n (x .edges)) known)) in
       subst (λ t. In {X = Part} (record { fixed = l; chart = joined (chart nodes ns) (take n (x .edges)) }) (parts t l (joined (chart nodes ns) (take n kids)))) (sym at)
-        (subst (λ c. In {X = Part} (record { fixed = l; chart = joined (chart nodes ns) (take n (x .edges)) }) (parts (n ∷ ns) l c)) (wanted-chart nodes n ns l kids few k)
-          (subst (In {X = Part} (record { fixed = l; chart = joined (chart nodes ns) (take n (x .edges)) })) (sym p) (inl refl)))
+      (subst (λ c. In {X = Part} (record { fixed = l; chart = joined (chart nodes ns) (take n (x .edges)) }) (parts (n ∷ ns) l c)) (wanted-chart nodes n ns l kids few k)
+      (subst (In {X = Part} (record { fixed = l; chart = joined (chart nodes ns) (take n (x .edges)) })) (sym p) (inl refl)))
 
   -- no time of the node is late, if none of the chart is
   pub wanted-timely : some late (joined (chart nodes ns) (take n kids)) ≡ false → late (wanted nodes ns l kids .most) ≡ false
@@ -128,7 +127,7 @@ module _ (nodes : List (Option Node)) (shape : Shape) (store : Store nodes shape
       let es = take n (x .edges) in
       let known = knows-kids nodes shape store l n ns es at (f .kids) in
       let g : plus (lowest kids) (x .most) ≡ greatest (joined (chart nodes ns) (take n kids)) =
-            ap (plus (lowest kids)) (f .high ∙ sym (body-high nodes n ns es known)) ∙ sym (greatest-later (lowest kids) (joined (chart nodes ns) es)) ∙ ap greatest (wanted-chart nodes n ns l kids few k) in
+      ap (plus (lowest kids)) (f .high ∙ sym (body-high nodes n ns es known)) ∙ sym (greatest-later (lowest kids) (joined (chart nodes ns) es)) ∙ ap greatest (wanted-chart nodes n ns l kids few k) in
       let t : late (plus (lowest kids) (x .most)) ≡ false = ap late g ∙ sym (late-tells (joined (chart nodes ns) (take n kids))) ∙ h in
       go (lowest kids) refl t
     where

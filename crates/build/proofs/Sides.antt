@@ -134,8 +134,8 @@ module _ (nodes : List (Option Node)) (shape : Shape) (store : Store nodes shape
   side-chart =
       let at = drop-more shape l 0 lt in
       subst (λ t. chart nodes t a ≡ later (Some w) (body nodes t x)) (sym at)
-        (ap (λ v. later v (joined (chart nodes (drop (l + 1) shape)) (take (getD shape l 0) (node-at nodes (a .child) .edges)))) weight
-         ∙ ap (λ y. later (Some w) (joined (chart nodes (drop (l + 1) shape)) (take (getD shape l 0) (y .edges)))) (sym here))
+      (ap (λ v. later v (joined (chart nodes (drop (l + 1) shape)) (take (getD shape l 0) (node-at nodes (a .child) .edges)))) weight
+      ∙ ap (λ y. later (Some w) (joined (chart nodes (drop (l + 1) shape)) (take (getD shape l 0) (y .edges)))) (sym here))
 
   pub side-long : length (later (Some w) (body nodes (drop l shape) x)) ≡ getD shape l 0 * size (drop (l + 1) shape)
   side-long = sym (ap length side-chart) ∙ knows nodes shape store (drop l shape) l a refl fine .long ∙ ap size (drop-more shape l 0 lt)

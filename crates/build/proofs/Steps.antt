@@ -55,7 +55,10 @@ ready-after old new shape l c r g = record { table = g .table; store = g .store;
 -- charts with the same parts
 pub grows-alike : (old new : List (Option Node)) (shape : Shape) (l : ℕ) (c d : Chart) → parts (drop l shape) l c ≡ parts (drop l shape) l d → Grows old new shape l c → Grows old new shape l d
 grows-alike old new shape l c d same g = record {
-  table = g .table; store = g .store; kept = g .kept; same = g .same;
+  table = g .table;
+  store = g .store;
+  kept = g .kept;
+  same = g .same;
   grown = λ k x p. elim (g .grown k x p) [ inl q ↦ inl q | inr q ↦ inr (subst (In (name new shape k)) same q) ];
 }
 
@@ -65,9 +68,9 @@ grows-then old mid new shape l m c d store sub g h = record {
   store = h .store;
   kept = λ k x p. h .kept k x (g .kept k x p);
   grown = λ k x p. elim (h .grown k x p) [
-      inl q ↦ elim (g .grown k x q) [ inl r ↦ inl r | inr r ↦ inr (subst (λ n. In n (parts (drop l shape) l c)) (sym (name-kept mid new (h .kept) shape (g .store) k x q)) r) ]
+    | inl q ↦ elim (g .grown k x q) [ inl r ↦ inl r | inr r ↦ inr (subst (λ n. In n (parts (drop l shape) l c)) (sym (name-kept mid new (h .kept) shape (g .store) k x q)) r) ]
     | inr q ↦ inr (sub (name new shape k) q)
-    ];
+  ];
   same = h .same ∙ g .same;
 }
 
@@ -95,9 +98,9 @@ module _ (old mid new : List (Option Node)) (shape : Shape) (l : ℕ) (c : Chart
         eight = length-set kids i e ∙ w .eight;
         rest = λ k h. getD-set-other kids i k e none-edge (omega arith) ∙ w .rest k (omega arith);
         done = below-more _ _
-          (λ k h. subst (λ d. Fine new ns (l + 1) d × (chart new ns d ≡ piece shape l c k)) (sym (getD-set-other kids i k e none-edge (omega arith)))
+            (λ k h. subst (λ d. Fine new ns (l + 1) d × (chart new ns d ≡ piece shape l c k)) (sym (getD-set-other kids i k e none-edge (omega arith)))
             (fine-kept mid new (g .kept) ns (l + 1) (getD kids k none-edge) (w .done k h .0), chart-kept mid new (g .kept) shape (w .grows .store) ns (l + 1) (getD kids k none-edge) refl (w .done k h .0) ∙ w .done k h .1))
-          (subst (λ d. Fine new ns (l + 1) d × (chart new ns d ≡ piece shape l c i)) (sym (getD-set-same kids i e none-edge at)) (fine, is));
+            (subst (λ d. Fine new ns (l + 1) d × (chart new ns d ≡ piece shape l c i)) (sym (getD-set-same kids i e none-edge at)) (fine, is));
       }
 
 -- the end
@@ -131,7 +134,7 @@ module _ (old mid : List (Option Node)) (shape : Shape) (l : ℕ) (c : Chart) (k
         eight = w .eight;
         fine = all-below (Fine mid ns (l + 1)) (take n kids) (λ k h. let h′ : k < n = omega (arith, h, long) in subst (Fine mid ns (l + 1)) (sym (front k h′)) (w .done k h′ .0));
         rest = ext-getD none-edge (drop n kids) (replicate (8 - n) none-edge) (length-drop n kids ∙ ap (λ m. m - n) (w .eight) ∙ sym (length-replicate (8 - n) none-edge))
-          (λ k h. getD-drop n kids k none-edge ∙ w .rest (n + k) (omega arith) ∙ sym (getD-replicate (8 - n) k none-edge none-edge (omega (arith, h, length-drop n kids, w .eight))));
+            (λ k h. getD-drop n kids k none-edge ∙ w .rest (n + k) (omega arith) ∙ sym (getD-replicate (8 - n) k none-edge none-edge (omega (arith, h, length-drop n kids, w .eight))));
       }
 
   pub partway-all : length c ≡ getD shape l 0 * size (drop (l + 1) shape) → together mid shape l kids ≡ c

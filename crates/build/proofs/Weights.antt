@@ -104,4 +104,3 @@ body-back nodes ns m es a = map-each (plus m) (chart nodes ns) (map (lower-by m)
     go : (ds : List Edge) → All (λ e. Back m (e .weight)) ds → joined (λ x. later m (chart nodes ns x)) (map (lower-by m) ds) ≡ joined (chart nodes ns) ds
     go [] b = refl
     go (d ∷ ds) b = let p = chart-back nodes ns m d (b .0) in let q = go ds (b .1) in λ i. p i ++ q i
-

@@ -15,7 +15,12 @@ use nodes::node::NodeEntry;
 use table::slots::intern;
 
 /// The edge to the normalised node with these edges, which is interned; none where no slot is free for it.
-pub fn make(nodes: &mut [Option<Node>], settings: &[u8], level: usize, kids: [Edge; 8]) -> Option<Edge>
+pub fn make(
+    nodes: &mut [Option<Node>],
+    settings: &[u8],
+    level: usize,
+    kids: [Edge; 8],
+) -> Option<Edge>
     requires depth { ⌜ level < length (now settings) ⌝ }
     requires ready { ⌜ Ready (now nodes) (now settings) ⌝ }
     requires kids { ⌜ Kids (now nodes) (getD (now settings) level 0) (drop (level + 1) (now settings)) level kids ⌝ }
@@ -26,8 +31,18 @@ pub fn make(nodes: &mut [Option<Node>], settings: &[u8], level: usize, kids: [Ed
     let low = least(&kids);
     let edges = lower_all(kids, low);
     let most = highest(nodes, settings, level + 1, &edges);
-    match intern(nodes, Node { level: level as u8, most, edges }) {
-        Some(i) => Some(Edge { weight: low, child: i as u16 }),
+    match intern(
+        nodes,
+        Node {
+            level: level as u8,
+            most,
+            edges,
+        },
+    ) {
+        Some(i) => Some(Edge {
+            weight: low,
+            child: i as u16,
+        }),
         None => None,
     }
 }
@@ -42,7 +57,10 @@ pub fn spread(nodes: &mut [Option<Node>], settings: &[u8], level: usize, kid: Ed
     ensures built { λ r. ⌜ Built (now (nodes .exit)) (now (settings .entry)) level (spread-chart (now (settings .entry)) level (chart (now (nodes .entry)) (drop (level + 1) (now (settings .entry))) kid)) r ⌝ }
 {
     let count = settings[level] as usize;
-    let mut kids = [Edge { weight: None, child: 0 }; 8];
+    let mut kids = [Edge {
+        weight: None,
+        child: 0,
+    }; 8];
     for i in 0..count {
         kids[i] = kid;
     }

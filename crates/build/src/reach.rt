@@ -12,7 +12,10 @@ use nodes::edge::Edge;
 use nodes::node::Node;
 
 /// An edge that is never throughout, past a device's last setting.
-const NO_EDGE: Edge = Edge { weight: None, child: 0 };
+const NO_EDGE: Edge = Edge {
+    weight: None,
+    child: 0,
+};
 
 /// What a slot holds; one that is not there holds nothing.
 fn slot_at(nodes: &[Option<Node>], i: u16) -> Option<Node>
@@ -28,7 +31,11 @@ pub fn node_at(nodes: &[Option<Node>], i: u16) -> Node
 {
     match slot_at(nodes, i) {
         Some(x) => x,
-        None => Node { level: 0, most: None, edges: [NO_EDGE; 8] },
+        None => Node {
+            level: 0,
+            most: None,
+            edges: [NO_EDGE; 8],
+        },
     }
 }
 
@@ -37,7 +44,11 @@ fn below(nodes: &[Option<Node>], settings: &[u8], level: usize, e: Edge) -> Opti
     requires { ⌜ level ≤ length (now settings) ⌝ }
     ensures { λ r. ⌜ r ≡ stores.below (now (nodes .entry)) (drop level (now (settings .entry))) e ⌝ }
 {
-    if level == settings.len() { Some(0) } else { node_at(nodes, e.child).most }
+    if level == settings.len() {
+        Some(0)
+    } else {
+        node_at(nodes, e.child).most
+    }
 }
 
 /// The greatest time of an edge.
@@ -72,6 +83,9 @@ pub fn raise(e: Edge, by: u64) -> Edge
 {
     match e.weight {
         None => e,
-        Some(w) => Edge { weight: Some(by + w), child: e.child },
+        Some(w) => Edge {
+            weight: Some(by + w),
+            child: e.child,
+        },
     }
 }

@@ -42,7 +42,10 @@ fn lower(e: Edge, by: Option<u64>) -> Edge
     ensures { λ r. ⌜ r ≡ lower-by by e ⌝ }
 {
     match (by, e.weight) {
-        (Some(b), Some(w)) => Edge { weight: Some(w.saturating_sub(b)), child: e.child },
+        (Some(b), Some(w)) => Edge {
+            weight: Some(w.saturating_sub(b)),
+            child: e.child,
+        },
         _ => e,
     }
 }

@@ -41,6 +41,7 @@ below-timely nodes shape store ns l e at f h = go (e .weight) refl h
     never : (ts : Shape) → drop l shape ≡ ts → Fine nodes ts l e → e .weight ≡ None → late (below nodes ts e) ≡ false
     never [] at f none = refl
     never (n ∷ ts) at f none = ap late (led nodes shape store l n ts e at f .high ∙ highest-never nodes ts (take n (node-at nodes (e .child) .edges)) (sym (f .low) ∙ ap zeroed none))
+
     go : (w : Time) → e .weight ≡ w → late (plus (e .weight) (below nodes ns e)) ≡ false → late (below nodes ns e) ≡ false
     go None none h = never ns at f none
     go (Some v) is h = late-less v (below nodes ns e) (ap (λ u. late (plus u (below nodes ns e))) (sym is) ∙ h)
@@ -191,7 +192,7 @@ copy-stands source shape l e x side new store m st =
     let b : joined (chart new ns) (take n (node-at new (m .child) .edges)) ≡ c = sym (lowered-is new shape store l n ns m at f) ∙ ap lowered is ∙ lowered-zeroed (e .weight) c cl in
     let r : Leads new n l (record { weight = e .weight; child = m .child }) = record { here = f .here; deep = f .deep; low = sym (twice (e .weight)) ∙ ap zeroed (sym w) ∙ f .low } in
     subst (λ t. Fine new t l (record { weight = e .weight; child = m .child }) × (chart new t (record { weight = e .weight; child = m .child }) ≡ chart source (drop l shape) e)) (sym at)
-      (r, ap (later (e .weight)) b ∙ sym (copy-chart source shape l e x side))
+    (r, ap (later (e .weight)) b ∙ sym (copy-chart source shape l e x side))
   where
     twice : (v : Time) → zeroed (zeroed v) ≡ zeroed v
     twice None = refl
@@ -222,9 +223,9 @@ moved-noted source nodes shape before after l e x m side store old st noted k j 
 
 pub noted-set : (old : List (Option ℕ)) (i j : ℕ) → i < length old → Noted old (set old i (Some j)) i j
 noted-set old i j il k m h = elim (cases-eq k i) [
-    inl e ↦ inr (e, let q : slot (set old i (Some j)) k ≡ Some j = ap (slot (set old i (Some j))) e ∙ getD-set-same old i (Some j) None il in let z : m ≡ j = cc in z)
+  | inl e ↦ inr (e, let q : slot (set old i (Some j)) k ≡ Some j = ap (slot (set old i (Some j))) e ∙ getD-set-same old i (Some j) None il in let z : m ≡ j = cc in z)
   | inr n ↦ inl (sym (getD-set-other old i k (Some j) None n) ∙ h)
-  ]
+]
 
 pub moved-none : (source nodes : List (Option Node)) (shape : Shape) (moved : List (Option ℕ)) → Empty moved → Moved source nodes shape moved
 moved-none source nodes shape moved empty k j h = absurd (let e = empty k in let z : _≡_ {A = ℕ} 0 1 = cc in omega arith)

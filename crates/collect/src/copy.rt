@@ -37,11 +37,17 @@ pub fn copy(
         return Some(e);
     }
     if let Some(child) = moved_to(moved, e.child) {
-        return Some(Edge { weight: e.weight, child });
+        return Some(Edge {
+            weight: e.weight,
+            child,
+        });
     }
     let node = node_at(source, e.child);
     let count = settings[level] as usize;
-    let mut kids = [Edge { weight: None, child: 0 }; 8];
+    let mut kids = [Edge {
+        weight: None,
+        child: 0,
+    }; 8];
     for i in 0..count {
         match copy(source, nodes, moved, settings, level + 1, node.edges[i]) {
             Some(kid) => {
@@ -53,7 +59,10 @@ pub fn copy(
     match make(nodes, settings, level, kids) {
         Some(made) => {
             note(moved, e.child, made.child);
-            Some(Edge { weight: e.weight, child: made.child })
+            Some(Edge {
+                weight: e.weight,
+                child: made.child,
+            })
         }
         None => None,
     }

@@ -59,9 +59,9 @@ dial-spread shape l v es lv vl =
 -- a time of a dial's chart is not late, if none of the entries is
 pub entry-timely : (n i : ℕ) (es : List Time) → i < n → some late (take n es) ≡ false → late (getD es i None) ≡ false
 entry-timely n i es il h = elim (cases-lt i (length (take n es))) [
-    inl k ↦ ap late (sym (getD-take n es i None il)) ∙ none-at late i (take n es) None k h
+  | inl k ↦ ap late (sym (getD-take n es i None il)) ∙ none-at late i (take n es) None k h
   | inr k ↦ ap late (sym (getD-take n es i None il) ∙ getD-past (take n es) i None k)
-  ]
+]
 
 -- At the device
 
@@ -121,4 +121,4 @@ dial-timely shape l v es lv vl h =
     let vl′ : v - l < length ns = omega (arith, lib.ListN.length-drop l shape) in
     let same : getD ns (v - l) 0 ≡ getD shape v 0 = getD-drop l shape (v - l) 0 ∙ ap (λ k. getD shape k 0) (let z : l + (v - l) ≡ v = omega arith in z) in
     legal-under (dialled ns (v - l) es) (greatest (take (getD ns (v - l) 0) es)) (latest .of-dialled ns (v - l) es vl′)
-      (ap (λ n. late (greatest (take n es))) same ∙ sym (late-tells (take (getD shape v 0) es)) ∙ h)
+    (ap (λ n. late (greatest (take n es))) same ∙ sym (late-tells (take (getD shape v 0) es)) ∙ h)

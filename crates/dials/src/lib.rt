@@ -15,7 +15,12 @@ use nodes::edge::Edge;
 use nodes::node::Node;
 
 /// The edge whose chart has one entry throughout.
-pub fn constant(nodes: &mut [Option<Node>], settings: &[u8], level: usize, entry: Option<u64>) -> Option<Edge>
+pub fn constant(
+    nodes: &mut [Option<Node>],
+    settings: &[u8],
+    level: usize,
+    entry: Option<u64>,
+) -> Option<Edge>
     requires depth { ⌜ level ≤ length (now settings) ⌝ }
     requires ready { ⌜ Ready (now nodes) (now settings) ⌝ }
     requires timely { ⌜ late entry ≡ false ⌝ }
@@ -23,7 +28,10 @@ pub fn constant(nodes: &mut [Option<Node>], settings: &[u8], level: usize, entry
     ensures built { λ r. ⌜ Built (now (nodes .exit)) (now (settings .entry)) level (flat (drop level (now (settings .entry))) entry) r ⌝ }
 {
     if level == settings.len() {
-        return Some(Edge { weight: entry, child: 0 });
+        return Some(Edge {
+            weight: entry,
+            child: 0,
+        });
     }
     match constant(nodes, settings, level + 1, entry) {
         Some(kid) => spread(nodes, settings, level, kid),
@@ -32,7 +40,12 @@ pub fn constant(nodes: &mut [Option<Node>], settings: &[u8], level: usize, entry
 }
 
 /// The edge of a level whose chart gives each setting of its device an entry.
-fn fan(nodes: &mut [Option<Node>], settings: &[u8], level: usize, entries: &[Option<u64>; 8]) -> Option<Edge>
+fn fan(
+    nodes: &mut [Option<Node>],
+    settings: &[u8],
+    level: usize,
+    entries: &[Option<u64>; 8],
+) -> Option<Edge>
     requires depth { ⌜ level < length (now settings) ⌝ }
     requires ready { ⌜ Ready (now nodes) (now settings) ⌝ }
     requires timely { ⌜ some late (take (getD (now settings) level 0) (now entries)) ≡ false ⌝ }
@@ -40,7 +53,10 @@ fn fan(nodes: &mut [Option<Node>], settings: &[u8], level: usize, entries: &[Opt
     ensures built { λ r. ⌜ Built (now (nodes .exit)) (now (settings .entry)) level (dialled (drop level (now (settings .entry))) 0 (now (entries .entry))) r ⌝ }
 {
     let count = settings[level] as usize;
-    let mut kids = [Edge { weight: None, child: 0 }; 8];
+    let mut kids = [Edge {
+        weight: None,
+        child: 0,
+    }; 8];
     for i in 0..count {
         match constant(nodes, settings, level + 1, entries[i]) {
             Some(kid) => {
@@ -53,7 +69,13 @@ fn fan(nodes: &mut [Option<Node>], settings: &[u8], level: usize, entries: &[Opt
 }
 
 /// The edge whose chart gives a scene the entry of the device's setting, or none where no slot is free for a part of it.
-pub fn dial(nodes: &mut [Option<Node>], settings: &[u8], level: usize, device: usize, entries: &[Option<u64>; 8]) -> Option<Edge>
+pub fn dial(
+    nodes: &mut [Option<Node>],
+    settings: &[u8],
+    level: usize,
+    device: usize,
+    entries: &[Option<u64>; 8],
+) -> Option<Edge>
     requires above { ⌜ level ≤ device ⌝ }
     requires depth { ⌜ device < length (now settings) ⌝ }
     requires ready { ⌜ Ready (now nodes) (now settings) ⌝ }

@@ -24,7 +24,15 @@ pub fn peg_at(pegs: &[Option<Edge>], i: u8) -> Option<Edge>
 }
 
 /// The edge of two pegs joined.
-fn join_pegs(op: Op, a: u8, b: u8, nodes: &mut [Option<Node>], memo: &mut [Option<Remembered>], settings: &[u8], pegs: &[Option<Edge>]) -> Option<Edge>
+fn join_pegs(
+    op: Op,
+    a: u8,
+    b: u8,
+    nodes: &mut [Option<Node>],
+    memo: &mut [Option<Remembered>],
+    settings: &[u8],
+    pegs: &[Option<Edge>],
+) -> Option<Edge>
     requires held { ⌜ Held (now nodes) (now settings) (now pegs) ⌝ }
     requires knows { ⌜ Knows (now nodes) (now settings) (now memo) ⌝ }
     requires allowed { ⌜ Allowed (now settings) (pegs-of (now nodes) (now settings) (now pegs)) (Task.Join op a b) ⌝ }
@@ -42,7 +50,15 @@ fn join_pegs(op: Op, a: u8, b: u8, nodes: &mut [Option<Node>], memo: &mut [Optio
 }
 
 /// The edge of a peg once a device is at a setting.
-fn put_peg(a: u8, device: u8, setting: u8, nodes: &mut [Option<Node>], memo: &mut [Option<Remembered>], settings: &[u8], pegs: &[Option<Edge>]) -> Option<Edge>
+fn put_peg(
+    a: u8,
+    device: u8,
+    setting: u8,
+    nodes: &mut [Option<Node>],
+    memo: &mut [Option<Remembered>],
+    settings: &[u8],
+    pegs: &[Option<Edge>],
+) -> Option<Edge>
     requires held { ⌜ Held (now nodes) (now settings) (now pegs) ⌝ }
     requires knows { ⌜ Knows (now nodes) (now settings) (now memo) ⌝ }
     requires allowed { ⌜ Allowed (now settings) (pegs-of (now nodes) (now settings) (now pegs)) (Task.Put a device setting) ⌝ }
@@ -57,7 +73,13 @@ fn put_peg(a: u8, device: u8, setting: u8, nodes: &mut [Option<Node>], memo: &mu
 }
 
 /// The edge of the chart to be hung, or none where no slot is free for one of its parts.
-fn attempt(task: Task, nodes: &mut [Option<Node>], memo: &mut [Option<Remembered>], settings: &[u8], pegs: &[Option<Edge>]) -> Option<Edge>
+fn attempt(
+    task: Task,
+    nodes: &mut [Option<Node>],
+    memo: &mut [Option<Remembered>],
+    settings: &[u8],
+    pegs: &[Option<Edge>],
+) -> Option<Edge>
     requires held { ⌜ Held (now nodes) (now settings) (now pegs) ⌝ }
     requires knows { ⌜ Knows (now nodes) (now settings) (now memo) ⌝ }
     requires allowed { ⌜ Allowed (now settings) (pegs-of (now nodes) (now settings) (now pegs)) (task) ⌝ }
@@ -73,7 +95,14 @@ fn attempt(task: Task, nodes: &mut [Option<Node>], memo: &mut [Option<Remembered
 }
 
 /// Hangs the chart on a peg, unless no slot is free for one of its parts.
-pub fn try_to_hang(task: Task, nodes: &mut [Option<Node>], memo: &mut [Option<Remembered>], settings: &[u8], pegs: &mut [Option<Edge>], target: usize) -> bool
+pub fn try_to_hang(
+    task: Task,
+    nodes: &mut [Option<Node>],
+    memo: &mut [Option<Remembered>],
+    settings: &[u8],
+    pegs: &mut [Option<Edge>],
+    target: usize,
+) -> bool
     requires held { ⌜ Held (now nodes) (now settings) (now pegs) ⌝ }
     requires knows { ⌜ Knows (now nodes) (now settings) (now memo) ⌝ }
     requires allowed { ⌜ Allowed (now settings) (pegs-of (now nodes) (now settings) (now pegs)) task ⌝ }

@@ -16,7 +16,14 @@ use pegs::sweep::sweep;
 use table::slots::clear;
 
 /// Keeps what the pegs reach and nothing else, and forgets remembered results.
-fn collect(nodes: &mut [Option<Node>], spare: &mut [Option<Node>], moved: &mut [Option<u16>], memo: &mut [Option<Remembered>], settings: &[u8], pegs: &mut [Option<Edge>])
+fn collect(
+    nodes: &mut [Option<Node>],
+    spare: &mut [Option<Node>],
+    moved: &mut [Option<u16>],
+    memo: &mut [Option<Remembered>],
+    settings: &[u8],
+    pegs: &mut [Option<Edge>],
+)
     requires held { ⌜ Held (now nodes) (now settings) (now pegs) ⌝ }
     requires size { ⌜ length (now spare) ≡ length (now nodes) ⌝ }
     ensures held { λ _. ⌜ Held (now (nodes .exit)) (now (settings .entry)) (now (pegs .exit)) ⌝ }
@@ -31,7 +38,16 @@ fn collect(nodes: &mut [Option<Node>], spare: &mut [Option<Node>], moved: &mut [
 
 /// Hangs a chart on a peg. Where the store is full it is collected, and the chart is tried once more; full again is no
 /// room, and every peg is as it was.
-pub fn hang(task: Task, nodes: &mut [Option<Node>], spare: &mut [Option<Node>], moved: &mut [Option<u16>], memo: &mut [Option<Remembered>], settings: &[u8], pegs: &mut [Option<Edge>], target: usize) -> bool
+pub fn hang(
+    task: Task,
+    nodes: &mut [Option<Node>],
+    spare: &mut [Option<Node>],
+    moved: &mut [Option<u16>],
+    memo: &mut [Option<Remembered>],
+    settings: &[u8],
+    pegs: &mut [Option<Edge>],
+    target: usize,
+) -> bool
     requires held { ⌜ Held (now nodes) (now settings) (now pegs) ⌝ }
     requires knows { ⌜ Knows (now nodes) (now settings) (now memo) ⌝ }
     requires allowed { ⌜ Allowed (now settings) (pegs-of (now nodes) (now settings) (now pegs)) task ⌝ }

@@ -34,9 +34,9 @@ added-by old new x (Some i) h k y p = go (h .1)
     go : (new ≡ old) ⊎ Placed old new x i → (slot old k ≡ Some y) ⊎ (y ≡ x)
     go (inl e) = inl (ap (λ (t : List (Option Remembered)). slot t k) (sym e) ∙ p)
     go (inr put) = elim (cases-eq k i) [
-        inl e ↦ inr (let q : slot new k ≡ Some x = ap (slot new) e ∙ put .here in let z : y ≡ x = cc in z)
+      | inl e ↦ inr (let q : slot new k ≡ Some x = ap (slot new) e ∙ put .here in let z : y ≡ x = cc in z)
       | inr n ↦ inl (sym (put .others k n) ∙ p)
-      ]
+    ]
 
 -- after forgetting all, what is added is all
 pub added-alone : (old mid new : List (Option Remembered)) (x : Remembered) (r : Option ℕ) → Empty mid → Interned SameKey mid new x r → Added old new x
@@ -79,4 +79,4 @@ recalled-stands nodes shape memo key e k r =
     let a = r .like .2 in
     let b = r .like .3 in
     subst (λ (d : Edge). Stands nodes shape (key .level) (result-chart (key .operation) (drop (key .level) shape) (key .level) (chart nodes (drop (key .level) shape) (key .left)) (chart nodes (drop (key .level) shape) (key .right))) d) (sym (r .is))
-      (coe 0 1 (i. Stands nodes shape (l i) (result-chart (o i) (drop (l i) shape) (l i) (chart nodes (drop (l i) shape) (a i)) (chart nodes (drop (l i) shape) (b i))) (x .result)) s)
+    (coe 0 1 (i. Stands nodes shape (l i) (result-chart (o i) (drop (l i) shape) (l i) (chart nodes (drop (l i) shape) (a i)) (chart nodes (drop (l i) shape) (b i))) (x .result)) s)

@@ -36,7 +36,10 @@ pub impl Entry for Remembered as RememberedEntry {
     ghost initial = { initial-of };
 
     fn same_key(&self, other: &Remembered) -> bool {
-        self.operation == other.operation && self.level == other.level && self.left == other.left && self.right == other.right
+        self.operation == other.operation
+            && self.level == other.level
+            && self.left == other.left
+            && self.right == other.right
     }
 
     fn start(&self, slots: usize) -> usize {

@@ -148,9 +148,10 @@ in-listed f (suc n) x (inr h) = let r = in-listed f n x h in (r .0, omega (arith
 
 pub listed-distinct : {A : Type 0} (f : ℕ → A) (n : ℕ) → ((i j : ℕ) → i < n → j < n → f i ≡ f j → i ≡ j) → Distinct (listed f n)
 listed-distinct f zero inj = tt
-listed-distinct f (suc n) inj =
-    ((λ h. let r = in-listed f n (f n) h in let e = inj n (r .0) (omega arith) (omega (arith, r .1)) (r .2) in omega (arith, r .1, e)),
-     listed-distinct f n (λ i j il jl e. inj i j (omega arith) (omega arith) e))
+listed-distinct f (suc n) inj = (
+  (λ h. let r = in-listed f n (f n) h in let e = inj n (r .0) (omega arith) (omega (arith, r .1)) (r .2) in omega (arith, r .1, e)),
+  listed-distinct f n (λ i j il jl e. inj i j (omega arith) (omega arith) e),
+)
 
 module _ {A : Type 0} (same : A → A → Bool) (law : Lawful same) (name : ℕ → A) (n : ℕ) (xs : List A) where
   -- every element has a slot that it is the name of
@@ -210,8 +211,8 @@ chart-full (x ∷ xs) = and-both (same-time x x) (same-chart xs xs) (entry-full 
 pub part-lawful : Lawful same-part
 part-lawful = record {
   right = λ p q h.
-    let e = eqb-true (p .fixed) (q .fixed) (and-left (eqb (p .fixed) (q .fixed)) (same-chart (p .chart) (q .chart)) h) in
-    let f = chart-right (p .chart) (q .chart) (and-right (eqb (p .fixed) (q .fixed)) (same-chart (p .chart) (q .chart)) h) in
-    λ i. record { fixed = e i; chart = f i };
+      let e = eqb-true (p .fixed) (q .fixed) (and-left (eqb (p .fixed) (q .fixed)) (same-chart (p .chart) (q .chart)) h) in
+      let f = chart-right (p .chart) (q .chart) (and-right (eqb (p .fixed) (q .fixed)) (same-chart (p .chart) (q .chart)) h) in
+      λ i. record { fixed = e i; chart = f i };
   full = λ p. and-both (eqb (p .fixed) (p .fixed)) (same-chart (p .chart) (p .chart)) (eq-eqb (p .fixed) (p .fixed) refl) (chart-full (p .chart));
 }

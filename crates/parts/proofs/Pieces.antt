@@ -181,7 +181,7 @@ parts-later [] k v c = refl
 parts-later (s ∷ ss) k v c =
     let p = lowered-later v c in
     let q : joined (parts ss (k + 1)) (pieces s (size ss) (later (Some v) c)) ≡ joined (parts ss (k + 1)) (pieces s (size ss) c) =
-          ap (joined (parts ss (k + 1))) (pieces-map (plus (Some v)) s (size ss) c) ∙ each-map (parts ss (k + 1)) (later (Some v)) (pieces s (size ss) c) ∙ each-same (λ d. parts ss (k + 1) (later (Some v) d)) (parts ss (k + 1)) (pieces s (size ss) c) (parts-later ss (k + 1) v) in
+    ap (joined (parts ss (k + 1))) (pieces-map (plus (Some v)) s (size ss) c) ∙ each-map (parts ss (k + 1)) (later (Some v)) (pieces s (size ss) c) ∙ each-same (λ d. parts ss (k + 1) (later (Some v) d)) (parts ss (k + 1)) (pieces s (size ss) c) (parts-later ss (k + 1) v) in
     λ i. record { fixed = k; chart = p i } ∷ q i
 
 pub parts-back : (ss : List ℕ) (k : ℕ) (w : Time) (c : Chart) → zeroed w ≡ least c → parts ss k (later w c) ≡ parts ss k c
@@ -193,5 +193,5 @@ pub parts-each : {A : Type 0} (f : A → Chart) (s : ℕ) (ss : List ℕ) (k : �
 parts-each f s ss k w xs n a h =
     let p = lowered-zeroed w (joined f xs) h in
     let q : joined (parts ss (k + 1)) (pieces s (size ss) (joined f xs)) ≡ joined (λ x. parts ss (k + 1) (f x)) xs =
-          ap (λ t. joined (parts ss (k + 1)) (pieces t (size ss) (joined f xs))) (sym n) ∙ ap (joined (parts ss (k + 1))) (pieces-each f (size ss) xs a) ∙ each-map (parts ss (k + 1)) f xs in
+    ap (λ t. joined (parts ss (k + 1)) (pieces t (size ss) (joined f xs))) (sym n) ∙ ap (joined (parts ss (k + 1))) (pieces-each f (size ss) xs a) ∙ each-map (parts ss (k + 1)) f xs in
     parts-back (s ∷ ss) k w (joined f xs) h ∙ (λ i. record { fixed = k; chart = p i } ∷ q i)

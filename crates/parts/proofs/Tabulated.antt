@@ -49,14 +49,14 @@ put-here n d ns c dl long =
     let p = getD (pieces n (size ns) c) d [] in
     tabulated-split n ns (λ s. at (n ∷ ns) c (set s 0 d))
     ∙ each-same (λ x. map (λ s. at (n ∷ ns) c (d ∷ s)) (scenes ns)) (λ _. p) (counting 0 n)
-      (λ x. tabulated-as ns (λ s. at (n ∷ ns) c (d ∷ s)) (at ns p) (λ s h. at-piece n (size ns) d (rank ns s) c dl (rank-less ns s h)) ∙ tabulated-self ns p long)
+    (λ x. tabulated-as ns (λ s. at (n ∷ ns) c (d ∷ s)) (at ns p) (λ s h. at-piece n (size ns) d (rank ns s) c dl (rank-less ns s h)) ∙ tabulated-self ns p long)
 
 pub put-below : (n v d : ℕ) (ns : Shape) (c : Chart) → v < length ns → d < getD ns v 0 → put-chart (n ∷ ns) (suc v) d c ≡ joined (λ x. put-chart ns v d (getD (pieces n (size ns) c) x [])) (counting 0 n)
 put-below n v d ns c vl dl =
     tabulated-split n ns (λ s. at (n ∷ ns) c (set s (suc v) d))
     ∙ joined-counting (λ x. map (λ s. at (n ∷ ns) c (x ∷ set s v d)) (scenes ns)) (λ x. put-chart ns v d (getD (pieces n (size ns) c) x [])) 0 n
-      (λ x u xl. tabulated-as ns (λ s. at (n ∷ ns) c (x ∷ set s v d)) (λ s. at ns (getD (pieces n (size ns) c) x []) (set s v d))
-        (λ s h. at-piece n (size ns) x (rank ns (set s v d)) c (omega arith) (rank-less ns (set s v d) (set-scene ns s v d h vl dl))))
+    (λ x u xl. tabulated-as ns (λ s. at (n ∷ ns) c (x ∷ set s v d)) (λ s. at ns (getD (pieces n (size ns) c) x []) (set s v d))
+    (λ s h. at-piece n (size ns) x (rank ns (set s v d)) c (omega arith) (rank-less ns (set s v d) (set-scene ns s v d h vl dl))))
 
 -- a put of a chart that is later
 pub getD-later : (w : Time) (c : Chart) (k : ℕ) → plus w None ≡ None → getD (later w c) k None ≡ plus w (getD c k None)

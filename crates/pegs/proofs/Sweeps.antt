@@ -83,7 +83,10 @@ swept-none source spare shape pegs held size table empty = record {
   ready = record { table = table; store = record { apart = table .apart; proper = λ k x h. absurd (both-ways (isSome (slot spare k)) (ap isSome (empty k)) (ap isSome h)) }; small = subst (λ n. n ≤ 65536) (sym size) (held .ready .small); some = held .ready .some; few = held .ready .few; short = held .ready .short };
   size = size;
   owned = λ k x h. absurd (both-ways (isSome (slot spare k)) (ap isSome (empty k)) (ap isSome h));
-  fine = tt; same = refl; rest = refl; long = refl;
+  fine = tt;
+  same = refl;
+  rest = refl;
+  long = refl;
 }
 
 all-append : {A : Type 0} (P : A → Type 0) (xs : List A) (y : A) → All P xs → P y → All P (xs ++ y ∷ [])
@@ -108,10 +111,10 @@ module _ (source spare new : List (Option Node)) (shape : Shape) (old pegs : Lis
     owned = owned;
     fine = subst (All (peg-fine new shape)) (sym (take-more-set pegs i r il)) (all-append (peg-fine new shape) (take i pegs) r (pegs-fine-kept spare new shape (w .ready .store) kept (take i pegs) (w .fine)) fine);
     same =
-      ap (pegs-of new shape) (take-more-set pegs i r il) ∙ map-append (peg-chart new shape) (take i pegs) (r ∷ [])
-      ∙ ap (λ t. t ++ peg-chart new shape r ∷ []) (pegs-kept spare new shape (w .ready .store) kept (take i pegs) (w .fine) ∙ w .same)
-      ∙ ap (λ d. pegs-of source shape (take i old) ++ d ∷ []) (is ∙ ap (peg-chart source shape) next-is)
-      ∙ sym (ap (pegs-of source shape) (take-more old i None (omega (arith, il, w .long))) ∙ map-append (peg-chart source shape) (take i old) (getD old i None ∷ []));
+        ap (pegs-of new shape) (take-more-set pegs i r il) ∙ map-append (peg-chart new shape) (take i pegs) (r ∷ [])
+        ∙ ap (λ t. t ++ peg-chart new shape r ∷ []) (pegs-kept spare new shape (w .ready .store) kept (take i pegs) (w .fine) ∙ w .same)
+        ∙ ap (λ d. pegs-of source shape (take i old) ++ d ∷ []) (is ∙ ap (peg-chart source shape) next-is)
+        ∙ sym (ap (pegs-of source shape) (take-more old i None (omega (arith, il, w .long))) ∙ map-append (peg-chart source shape) (take i old) (getD old i None ∷ []));
     rest = drop-set-lt (i + 1) pegs i r (omega arith) ∙ sym (drop-drop 1 i pegs) ∙ ap (drop 1) (w .rest) ∙ drop-drop 1 i old;
     long = lib.ListN.length-set pegs i r ∙ w .long;
   }
@@ -129,16 +132,16 @@ module _ (source spare new : List (Option Node)) (shape : Shape) (old pegs : Lis
 
     owned-more : Owned new shape (charts (pegs-of source shape old))
     owned-more k x h = elim (g .grown k x h) [
-        inl q ↦ in-cast (name spare shape k) (name new shape k) (joined (parts shape 0) (charts (pegs-of source shape old))) (name-kept spare new (g .kept) shape (w .ready .store) k x q) (w .owned k x q)
+      | inl q ↦ in-cast (name spare shape k) (name new shape k) (joined (parts shape 0) (charts (pegs-of source shape old))) (name-kept spare new (g .kept) shape (w .ready .store) k x q) (w .owned k x q)
       | inr q ↦ each-in (parts shape 0) (name new shape k) (chart source shape e) (charts (pegs-of source shape old)) e-in q
-      ]
+    ]
 
     copied : (r : Option Edge) → Built new shape 0 (chart source shape e) r → Swept source new shape old (set pegs i r) (i + 1)
     copied None s = absurd (never s)
     copied (Some c) st =
         more (Some c) (ready-after spare new shape 0 (chart source shape e) (w .ready) g) (g .kept) (g .same) owned-more
-          (st .0, ap (some late) (st .1) ∙ subst (λ p. peg-fine source shape p) at next-fine .1)
-          (ap {B = Option Chart} Some (st .1) ∙ sym (ap (peg-chart source shape) at))
+        (st .0, ap (some late) (st .1) ∙ subst (λ p. peg-fine source shape p) at next-fine .1)
+        (ap {B = Option Chart} Some (st .1) ∙ sym (ap (peg-chart source shape) at))
 
   pub swept-more : (r : Option Edge) → Copies-peg source spare new shape (getD pegs i None) r → Swept source new shape old (set pegs i r) (i + 1)
   swept-more r h = go (getD pegs i None) refl h
@@ -147,7 +150,7 @@ module _ (source spare new : List (Option Node)) (shape : Shape) (old pegs : Lis
       go None at c =
           let still = c .0 in
           more r (subst (λ n. Ready n shape) (sym still) (w .ready)) (subst (λ n. Kept spare n) (sym still) (λ k x q. q)) (ap length still) (subst (λ n. Owned n shape (charts (pegs-of source shape old))) (sym still) (w .owned))
-            (subst (peg-fine new shape) (sym (c .1)) tt) (ap (peg-chart new shape) (c .1) ∙ sym (ap (peg-chart source shape) at))
+          (subst (peg-fine new shape) (sym (c .1)) tt) (ap (peg-chart new shape) (c .1) ∙ sym (ap (peg-chart source shape) at))
       go (Some e) at c = copied e at (c .0) r (c .1)
 
 pub swept-all : (source spare : List (Option Node)) (shape : Shape) (old pegs : List (Option Edge)) (i : ℕ) → length pegs ≤ i → Swept source spare shape old pegs i → Collected source spare shape old pegs

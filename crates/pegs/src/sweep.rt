@@ -12,7 +12,13 @@ use nodes::node::NodeEntry;
 use table::slots::clear;
 
 /// What a peg carries, copied into another store; a bare peg stays bare.
-fn copy_peg(source: &[Option<Node>], nodes: &mut [Option<Node>], moved: &mut [Option<u16>], settings: &[u8], peg: Option<Edge>) -> Option<Edge>
+fn copy_peg(
+    source: &[Option<Node>],
+    nodes: &mut [Option<Node>],
+    moved: &mut [Option<u16>],
+    settings: &[u8],
+    peg: Option<Edge>,
+) -> Option<Edge>
     requires store { ⌜ Store (now source) (now settings) ⌝ }
     requires ready { ⌜ Ready (now nodes) (now settings) ⌝ }
     requires moved { ⌜ Moved (now source) (now nodes) (now settings) (now moved) ⌝ }
@@ -27,7 +33,13 @@ fn copy_peg(source: &[Option<Node>], nodes: &mut [Option<Node>], moved: &mut [Op
 }
 
 /// Copies what each peg carries into another store.
-fn copy_pegs(source: &[Option<Node>], spare: &mut [Option<Node>], moved: &mut [Option<u16>], settings: &[u8], pegs: &mut [Option<Edge>])
+fn copy_pegs(
+    source: &[Option<Node>],
+    spare: &mut [Option<Node>],
+    moved: &mut [Option<u16>],
+    settings: &[u8],
+    pegs: &mut [Option<Edge>],
+)
     requires held { ⌜ Held (now source) (now settings) (now pegs) ⌝ }
     requires start { ⌜ Swept (now source) (now spare) (now settings) (now pegs) (now pegs) 0 ⌝ }
     requires moved { ⌜ Moved (now source) (now spare) (now settings) (now moved) ⌝ }
@@ -39,7 +51,13 @@ fn copy_pegs(source: &[Option<Node>], spare: &mut [Option<Node>], moved: &mut [O
 }
 
 /// Copies what the pegs reach into another store, which then holds nothing else.
-pub fn sweep(source: &[Option<Node>], spare: &mut [Option<Node>], moved: &mut [Option<u16>], settings: &[u8], pegs: &mut [Option<Edge>])
+pub fn sweep(
+    source: &[Option<Node>],
+    spare: &mut [Option<Node>],
+    moved: &mut [Option<u16>],
+    settings: &[u8],
+    pegs: &mut [Option<Edge>],
+)
     requires held { ⌜ Held (now source) (now settings) (now pegs) ⌝ }
     requires size { ⌜ length (now spare) ≡ length (now source) ⌝ }
     ensures { λ _. ⌜ Collected (now (source .entry)) (now (spare .exit)) (now (settings .entry)) (now (pegs .entry)) (now (pegs .exit)) ⌝ }

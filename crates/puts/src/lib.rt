@@ -47,17 +47,42 @@ pub fn put(
     };
     let node = node_at(nodes, e.child);
     if level == device as usize {
-        return spread(nodes, settings, level, raise(node.edges[setting as usize], w));
+        return spread(
+            nodes,
+            settings,
+            level,
+            raise(node.edges[setting as usize], w),
+        );
     }
-    let rest = Edge { weight: Some(0), child: e.child };
-    let key = Remembered { operation: Operation::Put(device, setting), level: level as u8, left: rest, right: rest, result: rest };
+    let rest = Edge {
+        weight: Some(0),
+        child: e.child,
+    };
+    let key = Remembered {
+        operation: Operation::Put(device, setting),
+        level: level as u8,
+        left: rest,
+        right: rest,
+        result: rest,
+    };
     if let Some(known) = recall(memo, &key) {
         return Some(raise(known, w));
     }
     let count = settings[level] as usize;
-    let mut kids = [Edge { weight: None, child: 0 }; 8];
+    let mut kids = [Edge {
+        weight: None,
+        child: 0,
+    }; 8];
     for i in 0..count {
-        match put(nodes, memo, settings, level + 1, device, setting, node.edges[i]) {
+        match put(
+            nodes,
+            memo,
+            settings,
+            level + 1,
+            device,
+            setting,
+            node.edges[i],
+        ) {
             Some(kid) => {
                 kids[i] = kid;
             }
@@ -66,7 +91,13 @@ pub fn put(
     }
     match make(nodes, settings, level, kids) {
         Some(made) => {
-            remember(memo, Remembered { result: made, ..key });
+            remember(
+                memo,
+                Remembered {
+                    result: made,
+                    ..key
+                },
+            );
             Some(raise(made, w))
         }
         None => None,

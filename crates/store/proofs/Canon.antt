@@ -42,9 +42,9 @@ some-at nodes k h = go (slot nodes k) h
 
 pub slot-within : (nodes : List (Option Node)) (k : ℕ) → isSome (slot nodes k) ≡ true → k < length nodes
 slot-within nodes k h = elim (cases-lt k (length nodes)) [
-    inl l ↦ l
+  | inl l ↦ l
   | inr l ↦ absurd (both-ways (isSome (slot nodes k)) (ap isSome (getD-past nodes k None l)) h)
-  ]
+]
 
 pub tail-of : (shape : Shape) (l n : ℕ) (ns : Shape) → drop l shape ≡ n ∷ ns → drop (l + 1) shape ≡ ns
 tail-of shape l n ns at = sym (drop-drop 1 l shape) ∙ ap (drop 1) at

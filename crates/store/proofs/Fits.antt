@@ -76,13 +76,13 @@ roomy nodes shape store edges fine = room same-part part-lawful (name nodes shap
 pub overfull : Overfull
 overfull old new shape before after kept charts c here owned grown stuck =
     no-room same-part part-lawful (name new shape) (length new) (joined (parts shape 0) charts)
-      (λ i j il jl h. names-apart new shape after i j (node-at new i) (node-at new j) (some-at new i (stuck .taken i il)) (some-at new j (stuck .taken j jl)) h)
-      inside (stuck .part) (each-in (parts shape 0) (stuck .part) c charts here (stuck .within)) (stuck .away)
+    (λ i j il jl h. names-apart new shape after i j (node-at new i) (node-at new j) (some-at new i (stuck .taken i il)) (some-at new j (stuck .taken j jl)) h)
+    inside (stuck .part) (each-in (parts shape 0) (stuck .part) c charts here (stuck .within)) (stuck .away)
   where
     inside : (i : ℕ) → i < length new → In (name new shape i) (joined (parts shape 0) charts)
     inside i il =
         let x = node-at new i in
         elim (grown i x (some-at new i (stuck .taken i il))) [
-          inl h ↦ in-cast (name old shape i) (name new shape i) (joined (parts shape 0) charts) (name-kept old new kept shape before i x h) (owned i x h)
-        | inr h ↦ each-in (parts shape 0) (name new shape i) c charts here h
+          | inl h ↦ in-cast (name old shape i) (name new shape i) (joined (parts shape 0) charts) (name-kept old new kept shape before i x h) (owned i x h)
+          | inr h ↦ each-in (parts shape 0) (name new shape i) c charts here h
         ]

@@ -54,7 +54,9 @@ module _ (old new : List (Option Node)) (kept : Kept old new) where
 
   pub formed-kept : (n : ℕ) (ns : Shape) (x : Node) → Formed old n ns x → Formed new n ns x
   formed-kept n ns x f = record {
-    wide = f .wide; rest = f .rest; low = f .low;
+    wide = f .wide;
+    rest = f .rest;
+    low = f .low;
     high = f .high ∙ sym (highest-kept ns (x .level + 1) (take n (x .edges)) (f .kids));
     kids = all-map (Fine old ns (x .level + 1)) (Fine new ns (x .level + 1)) (take n (x .edges)) (λ e g. fine-kept ns (x .level + 1) e g) (f .kids);
   }

@@ -14,7 +14,13 @@ use nodes::edge::Edge;
 use nodes::node::Node;
 
 /// What the chart of an edge gives a scene, the devices from `level` on remaining: a time, or none.
-pub fn walk(nodes: &[Option<Node>], settings: &[u8], scene: &[u8], level: usize, e: Edge) -> Option<u64>
+pub fn walk(
+    nodes: &[Option<Node>],
+    settings: &[u8],
+    scene: &[u8],
+    level: usize,
+    e: Edge,
+) -> Option<u64>
     requires depth { ⌜ level ≤ length (now settings) ⌝ }
     requires scene { ⌜ Scene-of (now settings) (now scene) ⌝ }
     requires ready { ⌜ Ready (now nodes) (now settings) ⌝ }

@@ -14,7 +14,7 @@ returns-in-At c =
     let held = c .in-At .ensures tt in
     let is : c .result-in .result ≡ Some (held .entry .result) = c .result-in .ensures ∙ ap result-of (held .here) in
     subst (λ (r : Option Edge). Cases r (Absent SameKey (c .args .memo .now) (c .args .key .now)) (Recalled (c .args .memo .now) (c .args .key .now))) (sym is)
-      (record { place = c .in-At .i; entry = held .entry; here = held .here; like = held .like; is = refl })
+    (record { place = c .in-At .i; entry = held .entry; here = held .here; like = held .like; is = refl })
 
 pub returns-in-Free : need.returns-in-Free
 returns-in-Free c = c .in-Free .ensures tt .absent

@@ -24,10 +24,22 @@ raise-requires t c κs =
 
 pub walk-requires : need.walk-requires
 walk-requires t c κs =
-    let lt : c .args .level < length (c .args .settings .now) = search needs in
-    (search needs, (omega (arith, lt), (c .pre .scene, (c .pre .ready, (
-      step-fine (c .args .nodes .now) (c .args .settings .now) (c .args .scene .now) (c .args .level) (c .args .e) (c .in-Some .w) (c .node-at-node .result) (c .pre .ready) (c .pre .scene) lt (c .pre .fine) (c .pre .timely) (c .in-Some .is) (c .node-at-node .ensures) (c .raise .result) (c .raise .ensures),
-      step-timely (c .args .nodes .now) (c .args .settings .now) (c .args .scene .now) (c .args .level) (c .args .e) (c .in-Some .w) (c .node-at-node .result) (c .pre .ready) (c .pre .scene) lt (c .pre .fine) (c .pre .timely) (c .in-Some .is) (c .node-at-node .ensures) (c .raise .result) (c .raise .ensures))))))
+    let lt : c .args .level < length (c .args .settings .now) = search needs in (
+      search needs,
+      (
+        omega (arith, lt),
+        (
+          c .pre .scene,
+          (
+            c .pre .ready,
+            (
+              step-fine (c .args .nodes .now) (c .args .settings .now) (c .args .scene .now) (c .args .level) (c .args .e) (c .in-Some .w) (c .node-at-node .result) (c .pre .ready) (c .pre .scene) lt (c .pre .fine) (c .pre .timely) (c .in-Some .is) (c .node-at-node .ensures) (c .raise .result) (c .raise .ensures),
+              step-timely (c .args .nodes .now) (c .args .settings .now) (c .args .scene .now) (c .args .level) (c .args .e) (c .in-Some .w) (c .node-at-node .result) (c .pre .ready) (c .pre .scene) lt (c .pre .fine) (c .pre .timely) (c .in-Some .is) (c .node-at-node .ensures) (c .raise .result) (c .raise .ensures),
+            ),
+          ),
+        ),
+      ),
+    )
 
 pub returns : need.returns
 returns t c =

@@ -12,4 +12,4 @@ pub returns : need.returns
 returns c =
     let n : length (c .args .kids) ≡ 8 = search needs in
     ext-getD none-edge (c .loop-i .edges) (map (lower-by (c .args .by)) (c .args .kids)) (c .loop-i .inv .0 ∙ sym n ∙ sym (length-map (c .args .kids) (lower-by (c .args .by))))
-      (λ i l. c .loop-i .inv .1 i (omega (arith, l, c .loop-i .inv .0, c .loop-i-test .left)) ∙ sym (getD-map (lower-by (c .args .by)) (c .args .kids) i none-edge none-edge (omega (arith, l, n, c .loop-i .inv .0))))
+    (λ i l. c .loop-i .inv .1 i (omega (arith, l, c .loop-i .inv .0, c .loop-i-test .left)) ∙ sym (getD-map (lower-by (c .args .by)) (c .args .kids) i none-edge none-edge (omega (arith, l, n, c .loop-i .inv .0))))

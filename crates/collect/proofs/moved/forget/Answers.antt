@@ -19,6 +19,6 @@ loop-m-again c =
 
 pub returns : need.returns
 returns c k = elim (cases-lt k (c .loop-m .m-index)) [
-    inl l ↦ c .loop-m .inv k l
+  | inl l ↦ c .loop-m .inv k l
   | inr l ↦ getD-past (c .loop-m .moved) k None (omega arith)
-  ]
+]

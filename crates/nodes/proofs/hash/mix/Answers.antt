@@ -10,11 +10,12 @@ use Rattle.nodes.proofs.hash.mix.Needs as need
 pub loop-e-again : need.loop-e-again
 loop-e-again c =
     let xs = c .args .edges .now in
-    let i = c .loop-e .e-index in
-    (search needs,
+    let i = c .loop-e .e-index in (
+      search needs,
       ap (λ n. mixed ((c .loop-e .h * 16777619 + n) % 4294967296) (drop (i + 1) xs)) (c .code .ensures .value)
-      ∙ sym (at-drop-more (mixed (c .loop-e .h)) xs i (record { weight = None; child = 0 }) (c .loop-e-test .taken))
-      ∙ c .loop-e .inv .1)
+          ∙ sym (at-drop-more (mixed (c .loop-e .h)) xs i (record { weight = None; child = 0 }) (c .loop-e-test .taken))
+          ∙ c .loop-e .inv .1,
+    )
 
 pub returns : need.returns
 returns c =

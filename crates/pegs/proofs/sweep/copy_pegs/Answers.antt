@@ -13,9 +13,10 @@ copy-peg-requires c κs = record {
 }
 
 pub loop-i-again : need.loop-i-again
-loop-i-again c =
-    (swept-more (c .args .source .now) (c .loop-i .spare) (c .copy-peg .last .nodes) (c .args .settings .now) (c .args .pegs .now) (c .loop-i .pegs) (c .loop-i .i) (c .pre .held) (search needs) (c .loop-i .inv .0) (c .copy-peg .result) (c .copy-peg .ensures .copies),
-     c .copy-peg .ensures .moved)
+loop-i-again c = (
+  swept-more (c .args .source .now) (c .loop-i .spare) (c .copy-peg .last .nodes) (c .args .settings .now) (c .args .pegs .now) (c .loop-i .pegs) (c .loop-i .i) (c .pre .held) (search needs) (c .loop-i .inv .0) (c .copy-peg .result) (c .copy-peg .ensures .copies),
+  c .copy-peg .ensures .moved,
+)
 
 pub returns : need.returns
 returns c = swept-all (c .args .source .now) (c .loop-i .spare) (c .args .settings .now) (c .args .pegs .now) (c .loop-i .pegs) (c .loop-i .i) (omega (arith, c .loop-i-test .left, c .loop-i .kept .pegs)) (c .loop-i .inv .0)
