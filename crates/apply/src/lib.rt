@@ -1,0 +1,3 @@
+//! Two charts joined device by device, with remembered results.
+pub mod join;
+pub mod split;

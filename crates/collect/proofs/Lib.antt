@@ -1,0 +1,2 @@
+-- the steps of copying: Copying
+pub mod Copying

@@ -1,0 +1,3 @@
+//! The copying collector: what some edges reach, in another store.
+pub mod copy;
+pub mod moved;

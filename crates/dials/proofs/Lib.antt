@@ -1,0 +1,2 @@
+-- the steps of a dial: Turns
+pub mod Turns

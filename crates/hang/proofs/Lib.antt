@@ -1,0 +1,2 @@
+-- the steps of an attempt: Trying
+pub mod Trying

@@ -1,0 +1,2 @@
+-- what is remembered stays right: Keeps
+pub mod Keeps

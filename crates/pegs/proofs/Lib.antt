@@ -1,0 +1,2 @@
+-- the steps of a sweep: Sweeps
+pub mod Sweeps

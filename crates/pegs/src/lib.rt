@@ -1,0 +1,2 @@
+//! Charts on pegs as edges into a store of nodes.
+pub mod sweep;

@@ -1,0 +1,2 @@
+-- the steps of putting a pair: Putting
+pub mod Putting

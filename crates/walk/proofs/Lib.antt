@@ -1,0 +1,2 @@
+-- one step of a walk: Paths
+pub mod Paths
