@@ -1,3 +1,5 @@
 //! Two charts joined device by device, with remembered results.
+#![tactic(auto)]
+
 pub mod join;
 pub mod split;

@@ -1,4 +1,6 @@
 //! Normalised nodes, interned one by one: what every operation on a store is built of.
+#![tactic(auto)]
+
 pub mod make;
 pub mod reach;
 pub mod times;

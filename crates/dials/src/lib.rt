@@ -1,4 +1,6 @@
 //! Charts that depend on one device, built from the last device up.
+#![tactic(auto)]
+
 ghost use Rattle.std.specs.Prelude.{◌≡◌, ◌-◌, ◌<◌, ◌≤◌, false, map, length, take, drop, slice_index};
 ghost use Rattle.model.specs.Charts.{dialled, late};
 ghost use Rattle.model.specs.Lists.{some};

@@ -1,5 +1,7 @@
 //! The rig file as a list of bytes. Each function's contract is a theorem about the definitions in specs/; none does
 //! anything.
+#![tactic(auto)]
+
 ghost use Rattle.format.specs.Evening.{EveningFile};
 ghost use Rattle.format.specs.Laws.{OneReading, OneFile, EveryFile, PlacedBack, Prefixes};
 ghost use Rattle.format.specs.Reading.{TakenBack, ListsAsTaken};

@@ -1,5 +1,7 @@
 //! Charts hung on pegs: an operation is tried, and once more after collecting; no room exactly where the fill exceeds
 //! the slots.
+#![tactic(auto)]
+
 pub mod attempt;
 pub mod retry;
 pub mod task;

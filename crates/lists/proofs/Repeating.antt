@@ -1,9 +1,9 @@
 -- The first repeated entry, and the test whether there is one. Assumes nothing.
-use Rattle.std.proofs.Common.{◌≡◌, ℕ, zero, suc, ◌<◌, ◌≤◌, Bool, true, false, ◌||◌, List, [], ◌∷◌, length, get_or, sym, refl, ap, ◌∙◌, arith}
+use Rattle.std.proofs.Common.{◌≡◌, ℕ, zero, suc, ◌<◌, Bool, true, false, ◌||◌, List, [], ◌∷◌, length, refl, arith}
 use Rattle.std.proofs.lemmas.Bool.{false≢true, or_right}
 use Rattle.model.specs.Lists.{some, repeats}
 use Rattle.model.proofs.Tests.{absurd, some_at, some_found}
-use Rattle.lists.specs.Repeats.{Alike, New, Apart, Repeated}
+use Rattle.lists.specs.Repeats.{Alike, Apart, Repeated}
 
 module _ {X : Type 0} (same : X → X → Bool) where
   -- two entries that are the same

@@ -1,5 +1,5 @@
 -- The front of a list. Assumes nothing.
-use Rattle.std.proofs.Common.{◌≡◌, ℕ, zero, suc, ◌≤◌, List, [], ◌∷◌, length, take, set, sym, refl, ap, ◌∙◌, arith, length-take}
+use Rattle.std.proofs.Common.{◌≡◌, ℕ, zero, suc, ◌≤◌, List, [], ◌∷◌, take, set, sym, refl, ap, arith, length-take}
 use Rattle.std.proofs.lemmas.List.{set_past}
 
 -- setting an element of the front is setting it in the whole

@@ -1,4 +1,6 @@
 //! Bounded lists, the finder of the first repeated entry, the limits, and what is tested against them.
+#![tactic(auto)]
+
 pub mod counts;
 pub mod limits;
 pub mod names;

@@ -1,4 +1,6 @@
 //! Remembered results: the computed table.
+#![tactic(auto)]
+
 ghost use Rattle.std.specs.Prelude.{◌≡◌, ◌<◌, length, MatchOption};
 ghost use Rattle.table.specs.Tables.{Table, Absent, slot};
 ghost use Rattle.nodes.specs.Keys.{SameKey, initial_of};

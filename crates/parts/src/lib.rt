@@ -1,4 +1,6 @@
 //! Lemmas on the parts of charts and on how many different ones there are.
+#![tactic(auto)]
+
 ghost use Rattle.parts.specs.Counting.{Room, NoRoom, Shifts};
 
 /// Names for all parts of a list: there are no more different parts than names.

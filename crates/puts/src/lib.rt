@@ -1,4 +1,6 @@
 //! A chart once one device is at a setting.
+#![tactic(auto)]
+
 ghost use Rattle.std.specs.Prelude.{◌≡◌, ◌<◌, ◌≤◌, false, length, drop, slice_index};
 ghost use Rattle.model.specs.Charts.{late};
 ghost use Rattle.model.specs.Lists.{some};

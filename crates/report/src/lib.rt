@@ -1,4 +1,6 @@
 //! What is printed of a plan, line by line, and refusals in words.
+#![tactic(auto)]
+
 pub mod step;
 #[cfg(test)]
 mod tests;

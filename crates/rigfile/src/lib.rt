@@ -1,4 +1,6 @@
 //! Rig files: written into a buffer.
+#![tactic(auto)]
+
 mod devices;
 pub mod fault;
 mod moves;

@@ -1,5 +1,7 @@
 // The planning rule as a list of calls on a shelf. Each function's contract is a theorem about the definitions in
 // specs/; none does anything.
+#![tactic(auto)]
+
 ghost use Rattle.rule.specs.Bridge.{MovesTried, RoundsRun, StartsRun, RoundsShown, RoundsCounted, CountsAlike};
 ghost use Rattle.rule.specs.Bridge.{RuleGoesOn, RuleRight, RuleOnlyRoom};
 ghost use Rattle.rule.specs.Running.{OverfillingTold};

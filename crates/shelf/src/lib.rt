@@ -1,4 +1,6 @@
 // Charts on pegs: the calls that every shelf answers, what they mean, and how they refuse.
+#![tactic(auto)]
+
 pub mod calls;
 mod counts;
 pub mod either;

@@ -1,4 +1,6 @@
 // Opens a flat shelf, hangs, joins, puts and reads charts on it, and prints what it read.
+#![tactic(auto)]
+
 use flat::store::FlatShelf;
 use memory::handed_back;
 use print::{chart, compared, read, said};

@@ -1,4 +1,6 @@
 //! The calls of the planning rule on any shelf: one by one, and the blocks of calls of a move.
+#![tactic(auto)]
+
 pub mod blocks;
 pub mod dials;
 pub mod fault;

@@ -1,4 +1,6 @@
 //! What a store of nodes keeps, and why it is canonical and counts parts exactly.
+#![tactic(auto)]
+
 ghost use Rattle.store.specs.Fillings.{Canonical, Roomy, Overfull};
 
 /// Edges with the same chart are the same edge.

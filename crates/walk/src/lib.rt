@@ -1,4 +1,6 @@
 //! The entry of a scene: one path from an edge down to the terminal.
+#![tactic(auto)]
+
 ghost use Rattle.std.specs.Prelude.{◌≡◌, ◌≤◌, false, length, drop};
 ghost use Rattle.model.specs.Charts.{at, late};
 ghost use Rattle.model.specs.Lists.{some};

@@ -1,4 +1,6 @@
 //! Plans the worked evening: the quickest run of moves to a dark sky, and what each of them takes.
+#![tactic(auto)]
+
 mod evening;
 
 use anyhow::anyhow;

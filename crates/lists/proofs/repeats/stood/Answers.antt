@@ -1,4 +1,4 @@
-use Rattle.std.proofs.Common.{◌≡◌, ℕ, ◌<◌, Bool, true, false, get_or, sym, ap, ◌∙◌, arith, below_more}
+use Rattle.std.proofs.Common.{◌≡◌, ℕ, true, false, get_or, arith, below_more}
 use Rattle.std.proofs.lemmas.List.{get_or_read}
 use Rattle.lists.proofs.repeats.stood.Goals as goal
 
@@ -11,7 +11,7 @@ loop-j-preserved g c =
     let y = c.index-items-i.result in
     let ex : x ≡ get_or xs c.loop-j.j x = c.index-items-j.is in
     let ey : y ≡ get_or xs c.args.i x = get_or_read xs c.args.i y c.requires c.index-items-i.is x in
-    let t : false ≡ g.T.Keyed.same x y = c.if-has-key-of.ensures in
+    let t : false ≡ g.T.Keyed.same x y = c.if-has_key_of.ensures in
     let same : g.T.Keyed.same (get_or xs c.loop-j.j x) (get_or xs c.args.i x) ≡ true = a x in
     let z : false ≡ true = cc in
     let n : ◌≡◌ {A = ℕ} 0 1 = cc in

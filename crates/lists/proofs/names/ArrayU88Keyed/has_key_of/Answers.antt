@@ -1,4 +1,3 @@
-use Rattle.std.proofs.Common.{sym}
 use Rattle.std.proofs.lemmas.Slice.Eq.{slice_eq-Decides}
 use Rattle.lists.proofs.Naming.{decided_same}
 use Rattle.lists.proofs.names.ArrayU88Keyed.has_key_of.Goals as goal
