@@ -1,16 +1,15 @@
 -- Contents that are alike. Assumes nothing.
-use Rattle.std.proofs.Common.{◌≡◌, ℕ, zero, suc, ◌<◌, ◌≤◌, Bool, ◌⊎◌, List, [], ◌∷◌, Some, None, Option, sym, refl, ap, ◌∙◌, subst, inl, inr, ⊎_elim, arith}
-use Rattle.model.specs.Scenes.{Shape, Scene, SceneOf}
-use Rattle.model.specs.Charts.{Time, Chart, at, lesser}
+use Rattle.std.proofs.Common.{◌≡◌, ℕ, zero, suc, ◌≤◌, Bool, List, [], ◌∷◌, Some, None, Option, sym, refl, ap, ◌∙◌, subst, inl, inr, arith}
+use Rattle.model.specs.Scenes.{Shape, Scene}
+use Rattle.model.specs.Charts.{Time, at, lesser}
 use Rattle.model.specs.Masks.{wanted}
-use Rattle.model.specs.Contents.{Contents, slot}
+use Rattle.model.specs.Contents.{Contents}
 use Rattle.model.proofs.Ranks.{tabulated_as}
 use Rattle.theory.specs.Actions.{Action, Table, numbered, Run}
 use Rattle.theory.specs.Iteration.{through, best, relax, rounds}
 use Rattle.theory.specs.Walks.{Before}
 use Rattle.theory.specs.Tables.{action_in, table_of}
 use Rattle.theory.specs.Performing.{Way}
-use Rattle.theory.specs.Ways.{Best}
 use Rattle.theory.specs.Alike.{Alike, WaysAlike, BestAlike}
 use Rattle.theory.proofs.Greedy.{before_told}
 use Rattle.theory.proofs.Tabling.{table_numbered}

@@ -1,8 +1,8 @@
 -- The greedy walk is the best way. Assumes nothing.
-use Rattle.std.proofs.Common.{◌≡◌, ℕ, ◌≤◌, List, Some, None, subst}
+use Rattle.std.proofs.Common.{subst}
 use Rattle.model.specs.Masks.{wanted}
 use Rattle.theory.specs.Tables.{table_of}
-use Rattle.theory.specs.Ways.{Best, WalksBest, NeverNone}
+use Rattle.theory.specs.Ways.{WalksBest, NeverNone}
 use Rattle.theory.proofs.Times.{AtMost, most}
 use Rattle.theory.proofs.Greedy.{walk_right, before_told}
 use Rattle.theory.proofs.Told.{contents_told}

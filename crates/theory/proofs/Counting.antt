@@ -1,5 +1,5 @@
 -- The product of the ones in the masks counts the wanted scenes. Assumes nothing.
-use Rattle.std.proofs.Common.{◌≡◌, ℕ, zero, suc, ◌+◌, ◌*◌, ◌/◌, ◌%◌, ◌^◌, ◌<◌, ◌≤◌, Bool, true, false, cond, not, ◌&&◌, ◌||◌, eqb, leb, List, [], ◌∷◌, ◌++◌, map, length, get_or, Ok, Err, Result, sym, refl, ap, ◌∙◌, subst, add_assoc, mod-lt, mul_comm, div-lt_iff_lt-mul, add-mul, one-mul, pow-suc, zero-add, zero-mul, div-one, add-one, arith, lit<}
+use Rattle.std.proofs.Common.{◌≡◌, ℕ, zero, suc, ◌+◌, ◌*◌, ◌/◌, ◌%◌, ◌^◌, ◌<◌, Bool, true, false, cond, ◌&&◌, eqb, leb, List, [], ◌∷◌, ◌++◌, map, length, Ok, Err, Result, sym, refl, ap, ◌∙◌, subst, add_assoc, mod-lt, div-lt_iff_lt-mul, add-mul, one-mul, pow-suc, zero-add, zero-mul, div-one, add-one, arith, lit<}
 use native.Mathlib.Nat.{pow-succ', div-div-eq-div-mul}
 use lib.Count.{ones, ones_step, ones-le}
 use Rattle.std.specs.List.{range_with_len, flat_map}

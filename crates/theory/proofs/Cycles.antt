@@ -1,13 +1,12 @@
 -- A run with no scene twice is short, so the rounds stop and the times stay small. Assumes nothing.
-use Rattle.std.proofs.Common.{◌≡◌, ℕ, zero, suc, ◌+◌, ◌*◌, ◌<◌, ◌≤◌, Bool, ◌⊎◌, List, [], ◌∷◌, map, length, Some, None, Option, sym, refl, ap, ◌∙◌, subst, inl, inr, ⊎_elim, mul-le-mul_right, arith}
+use Rattle.std.proofs.Common.{◌≡◌, ℕ, zero, suc, ◌+◌, ◌*◌, ◌<◌, ◌≤◌, Bool, ◌⊎◌, List, [], ◌∷◌, map, length, Some, sym, refl, ap, ◌∙◌, subst, inl, inr, ⊎_elim, mul-le-mul_right, arith}
 use Rattle.std.specs.List.{AllByRecursion as All}
 use Rattle.std.proofs.lemmas.Bool.{cases_eq}
 use Rattle.model.specs.Limits.{most_tenths}
 use Rattle.model.specs.Scenes.{Shape, Scene, SceneOf, size, scenes, rank}
-use Rattle.model.specs.Charts.{Time, Chart, at}
+use Rattle.model.specs.Charts.{Time, at}
 use Rattle.model.proofs.Ranks.{rank_less, rank_one, tabulated, tabulated_as}
-use Rattle.theory.specs.Actions.{Action, Table, numbered, LawfulTable, Run}
-use Rattle.theory.specs.Iteration.{relax, rounds}
+use Rattle.theory.specs.Actions.{Table, LawfulTable, Run}
 use Rattle.theory.specs.Stops.{RoundsStop, TimesBounded, ChartsRight}
 use Rattle.theory.proofs.Times.{AtMost, of_some, no_later, same_times, relax_keeps, now, next_round, sound, whole, settled_right}
 

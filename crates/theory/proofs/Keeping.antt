@@ -1,18 +1,18 @@
 -- Each call leaves lawful contents lawful. Assumes nothing.
-use Rattle.std.proofs.Common.{◌≡◌, ℕ, zero, suc, ◌+◌, ◌-◌, ◌^◌, ◌<◌, ◌≤◌, Bool, true, false, cond, not, ◌||◌, eqb, ltb, leb, ◌⊎◌, List, [], ◌∷◌, ◌++◌, map, length, get_or, set, replicate, is_some, Some, None, Ok, Err, Option, Result, sym, refl, ap, ◌∙◌, subst, ⊎_elim, arith}
+use Rattle.std.proofs.Common.{◌≡◌, ℕ, ◌<◌, Bool, true, false, ◌||◌, ltb, List, [], ◌∷◌, length, get_or, set, Some, None, Ok, Option, Result, sym, refl, ap, ◌∙◌, subst, ⊎_elim}
 use Rattle.std.specs.List.{AllByRecursion as All}
-use Rattle.std.proofs.lemmas.List.{length-map, length-set, length-replicate, get_or-set_same, get_or-set_other, get_or_past}
-use Rattle.std.proofs.lemmas.Bool.{or_parts, or_from, cases_eq, cases_lt, cond-false, eq-eqb, not_from_true}
-use Rattle.model.specs.Limits.{outside, most_conditions, most_effects, most_surcharges}
-use Rattle.model.specs.Lists.{some, some_two, repeats}
-use Rattle.model.specs.Refusals.{Check, refuse, answer, passes, left_by}
-use Rattle.model.specs.Scenes.{Shape, Scene}
+use Rattle.std.proofs.lemmas.List.{length-set, get_or-set_same, get_or-set_other, get_or_past}
+use Rattle.std.proofs.lemmas.Bool.{or_parts, or_from, cases_eq, cases_lt, cond-false}
+use Rattle.model.specs.Limits.{outside, most_conditions, most_effects}
+use Rattle.model.specs.Lists.{some, repeats}
+use Rattle.model.specs.Refusals.{Check, answer, passes, left_by}
+use Rattle.model.specs.Scenes.{Shape}
 use Rattle.model.specs.Moves.{Pair, Surcharge, Move}
-use Rattle.model.specs.Masks.{ill, all_of, product_of_ones}
-use Rattle.model.specs.Contents.{Contents, Name, slot, with_slot, with_masks}
-use Rattle.model.specs.Calls.{Lawful, lawful_slot, opens, opened, open_checks, move_checks, timing_checks, pair_checks, want_checks, pairs_of, tested, device_high, setting_high, same_device, lengths_off, surcharges_off, times_off, no_slot, in_use, vacant, in_slot, retiming, adds, added, retimes, retimed, withdraws, withdrawn, performs, performed, wants, wanting}
+use Rattle.model.specs.Masks.{product_of_ones}
+use Rattle.model.specs.Contents.{Contents, slot, with_slot, with_masks}
+use Rattle.model.specs.Calls.{Lawful, lawful_slot, open_checks, move_checks, timing_checks, want_checks, pairs_of, tested, device_high, setting_high, same_device, surcharges_off, no_slot, in_use, vacant, in_slot, retiming, adds, retimes, withdraws, performs, wants}
 use Rattle.model.proofs.Refusing.{accepted, left_either, left_ok}
-use Rattle.theory.specs.Keeping.{OpeningsLawful, Kept, CallsKeep}
+use Rattle.theory.specs.Keeping.{CallsKeep}
 use Rattle.theory.proofs.Told.{no_refusal}
 use Rattle.theory.proofs.Performing.{performed_keeps}
 

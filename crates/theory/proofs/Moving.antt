@@ -1,15 +1,14 @@
 -- An accepted perform is a transition, device by device. Assumes nothing.
-use Rattle.std.proofs.Common.{◌≡◌, ℕ, ◌<◌, ◌≤◌, Bool, true, false, ◌≢◌, ◌⊎◌, List, [], ◌∷◌, length, get_or, set, Some, Ok, Err, Result, sym, refl, ap, ◌∙◌, subst, inl, inr, arith}
-use Rattle.std.specs.List.{AllByRecursion as All}
+use Rattle.std.proofs.Common.{◌≡◌, ℕ, ◌<◌, List, [], ◌∷◌, length, get_or, set, Ok, Err, Result, sym, refl, ap, ◌∙◌, subst, inl, inr}
 use Rattle.std.proofs.lemmas.List.{length-set, get_or-set_same, get_or-set_other}
 use Rattle.model.specs.Lists.{In}
 use Rattle.model.specs.Scenes.{Scene}
-use Rattle.model.specs.Moves.{Pair, Move, Successor, Transition, holds, applied, time}
-use Rattle.model.specs.Contents.{Contents, slot}
+use Rattle.model.specs.Moves.{Pair, Successor, Transition, holds, applied}
+use Rattle.model.specs.Contents.{Contents}
 use Rattle.model.specs.Calls.{Lawful, Moved, performs, performed}
 use Rattle.model.proofs.Tests.{every_in}
 use Rattle.theory.specs.Wellformed.{Absent, Distinct}
-use Rattle.theory.proofs.Performing.{Accepted, accepted, move_lawful}
+use Rattle.theory.proofs.Performing.{accepted, move_lawful}
 
 pub applied_length : (es : List Pair) (s : Scene) → length (applied es s) ≡ length s
 applied_length [] s = refl

@@ -1,19 +1,16 @@
 -- What an opening leaves is lawful. Assumes nothing.
-use Rattle.std.proofs.Common.{◌≡◌, ℕ, zero, suc, ◌-◌, ◌^◌, ◌<◌, ◌≤◌, Bool, true, false, not, ◌||◌, eqb, ltb, leb, ◌⊎◌, List, [], ◌∷◌, map, length, get_or, replicate, Some, None, Ok, Option, sym, refl, ap, ◌∙◌, subst, ⊎_elim, arith, pow_mono}
+use Rattle.std.proofs.Common.{◌≡◌, ℕ, ◌^◌, ◌<◌, ◌≤◌, true, false, eqb, leb, [], ◌∷◌, map, None, sym, refl, ap, subst, arith, pow_mono}
 use Rattle.std.specs.List.{AllByRecursion as All}
 use Rattle.std.proofs.lemmas.List.{length-map, length-replicate, get_or-replicate}
-use Rattle.std.proofs.lemmas.Bool.{or_parts, or_from, ne_eqb, lt-leb, eq-eqb, ltb-false, not_from_true}
-use Rattle.model.specs.Limits.{outside, least_settings, most_settings, most_devices}
-use Rattle.model.specs.Lists.{some, some_two}
+use Rattle.std.proofs.lemmas.Bool.{or_parts, or_from, ne_eqb, lt-leb, eq-eqb, not_from_true}
+use Rattle.model.specs.Limits.{least_settings}
+use Rattle.model.specs.Lists.{some_two}
 use Rattle.model.specs.Refusals.{passes}
-use Rattle.model.specs.Scenes.{Shape, Scene, shape_off}
-use Rattle.model.specs.Moves.{Move}
+use Rattle.model.specs.Scenes.{Shape, shape_off}
 use Rattle.model.specs.Masks.{ill, all_of}
-use Rattle.model.specs.Contents.{Name}
-use Rattle.model.specs.Calls.{Lawful, lawful_slot, opened, open_checks, want_checks, counts_off}
+use Rattle.model.specs.Calls.{lawful_slot, open_checks, want_checks}
 use Rattle.model.proofs.Refusing.{accepted}
 use Rattle.theory.specs.Keeping.{OpeningsLawful}
-use Rattle.theory.specs.Wellformed.{LawfulShape}
 use Rattle.theory.proofs.Told.{lawful_shape}
 use Rattle.theory.proofs.Keeping.{all_pass, accepted_passes}
 

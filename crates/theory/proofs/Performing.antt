@@ -1,5 +1,5 @@
 -- Runs of accepted performs are runs of the table. Assumes nothing.
-use Rattle.std.proofs.Common.{◌≡◌, ℕ, zero, suc, ◌+◌, ◌<◌, ◌≤◌, Bool, true, false, cond, not, ◌||◌, eqb, leb, ◌⊎◌, ◌↔◌, List, [], ◌∷◌, length, get_or, is_some, Some, None, Ok, Err, Option, Result, sym, refl, ap, ◌∙◌, subst, ⊎_elim, arith}
+use Rattle.std.proofs.Common.{◌≡◌, ℕ, zero, suc, ◌+◌, Bool, true, false, cond, not, ◌||◌, eqb, leb, List, [], ◌∷◌, length, get_or, is_some, Some, None, Ok, Err, Option, Result, sym, refl, ap, ◌∙◌, subst, ⊎_elim, arith}
 use Rattle.std.specs.List.{AllByRecursion as All}
 use Rattle.std.proofs.lemmas.List.{get_or_past}
 use Rattle.std.proofs.lemmas.Bool.{lt-leb, cases_lt}
@@ -12,10 +12,10 @@ use Rattle.model.specs.Masks.{wanted}
 use Rattle.model.specs.Contents.{Contents, slot, with_scene}
 use Rattle.model.specs.Calls.{same_name, in_slot, performs, performed, Lawful}
 use Rattle.model.proofs.Ranks.{scene_length, scene_within}
-use Rattle.theory.specs.Actions.{Action, numbered, Run}
+use Rattle.theory.specs.Actions.{Action, Run}
 use Rattle.theory.specs.Wellformed.{LawfulSlot, LawfulMove}
 use Rattle.theory.specs.Tables.{action_of, action_in, table_of}
-use Rattle.theory.specs.Performing.{Performs, Way, WaysAreRuns, Performed, PerformsKeep}
+use Rattle.theory.specs.Performing.{Way, WaysAreRuns, Performed, PerformsKeep}
 use Rattle.theory.proofs.Told.{contents_told}
 use Rattle.theory.proofs.Tabling.{table_numbered, applied_scene}
 

@@ -1,5 +1,5 @@
 -- The table of actions that moves make. Assumes nothing.
-use Rattle.std.proofs.Common.{◌≡◌, ℕ, zero, suc, ◌+◌, ◌<◌, ◌≤◌, Bool, true, false, cond, List, [], ◌∷◌, get_or, set, Some, None, Option, sym, refl, ap, ◌∙◌, subst, arith}
+use Rattle.std.proofs.Common.{◌≡◌, ℕ, zero, suc, ◌+◌, ◌≤◌, Bool, true, false, cond, List, [], ◌∷◌, get_or, set, Some, None, Option, refl, subst, arith}
 use Rattle.std.specs.List.{AllByRecursion as All}
 use Rattle.model.specs.Lists.{total}
 use Rattle.model.specs.Scenes.{Shape, Scene, SceneOf}
@@ -7,7 +7,7 @@ use Rattle.model.specs.Moves.{Pair, Surcharge, Move, all_hold, charged, applied}
 use Rattle.model.specs.Calls.{extra}
 use Rattle.model.proofs.Ranks.{set_scene}
 use Rattle.theory.specs.Actions.{Action, numbered, LawfulAction}
-use Rattle.theory.specs.Wellformed.{Within, LawfulMove, LawfulSlot}
+use Rattle.theory.specs.Wellformed.{Within, LawfulMove}
 use Rattle.theory.specs.Tables.{action_of, action_in, table_of, MovesLawful, TablesLawful}
 use Rattle.theory.proofs.Told.{contents_told}
 

@@ -1,11 +1,11 @@
 -- What a round of value iteration does to the times. Assumes nothing.
-use Rattle.std.proofs.Common.{◌≡◌, ℕ, zero, suc, ◌+◌, ◌<◌, ◌≤◌, min, Bool, true, false, cond, ◌⊎◌, ◌↔◌, List, [], ◌∷◌, length, Some, None, Option, sym, refl, ap, ◌∙◌, subst, inl, inr, ⊎_elim, arith}
+use Rattle.std.proofs.Common.{◌≡◌, ℕ, zero, suc, ◌+◌, ◌≤◌, min, Bool, true, false, cond, ◌⊎◌, List, [], ◌∷◌, length, Some, None, Option, sym, refl, ap, ◌∙◌, subst, inl, inr, ⊎_elim, arith}
 use Rattle.std.proofs.lemmas.Bool.{cases_lt}
 use Rattle.model.specs.Scenes.{Shape, Scene, SceneOf}
-use Rattle.model.specs.Charts.{Time, Chart, at, lesser}
+use Rattle.model.specs.Charts.{Time, at, lesser}
 use Rattle.model.proofs.Ranks.{tabulated}
-use Rattle.theory.specs.Actions.{Action, Table, numbered, LawfulAction, LawfulTable, Run}
-use Rattle.theory.specs.Iteration.{later, through, best, relax, initial, rounds, Least, Answers, Right, RoundsRight, SettledRight, Settled, AnySettledRight}
+use Rattle.theory.specs.Actions.{Action, Table, numbered, LawfulTable, Run}
+use Rattle.theory.specs.Iteration.{later, through, best, relax, initial, rounds, Answers, RoundsRight, SettledRight, Settled, AnySettledRight}
 
 -- the time is there, and at most t
 abbrev pub AtMost : Time → ℕ → Type 0

@@ -1,17 +1,17 @@
 -- What the tests of open, want and add tell of contents. Assumes nothing.
-use Rattle.std.proofs.Common.{◌≡◌, ℕ, ◌+◌, ◌<◌, ◌≤◌, Bool, true, false, cond, not, ◌&&◌, ◌||◌, eqb, ltb, leb, ◌≢◌, List, [], ◌∷◌, map, length, get_or, Some, None, Option, sym, refl, ap, ◌∙◌, subst, arith}
+use Rattle.std.proofs.Common.{◌≡◌, ℕ, ◌+◌, ◌≤◌, Bool, true, false, cond, not, ◌&&◌, eqb, ltb, leb, ◌≢◌, List, [], ◌∷◌, map, length, get_or, Some, None, Option, refl, arith}
 use Rattle.std.specs.List.{AllByRecursion as All}
 use Rattle.std.proofs.ByRecursion.{All-weaker, All-from_get_or}
 use Rattle.std.proofs.lemmas.Bool.{false≢true, ltb-false, lt-ltb, leb-false, eqb-true, eqb-false, not-false, or_parts}
 use Rattle.model.specs.Limits.{outside, least_settings, most_settings, most_devices, most_tests, most_conditions, most_effects, most_surcharges, most_tenths}
 use Rattle.model.specs.Lists.{total, some, some_two, repeats}
-use Rattle.model.specs.Refusals.{Check, refuse, passes}
-use Rattle.model.specs.Scenes.{Shape, Scene, SceneOf, shape_off}
+use Rattle.model.specs.Refusals.{Check, passes}
+use Rattle.model.specs.Scenes.{Shape, shape_off}
 use Rattle.model.specs.Moves.{Pair, Surcharge, Move}
-use Rattle.model.specs.Contents.{Contents, slot}
-use Rattle.model.specs.Calls.{Lawful, lawful_slot, counts_off, open_checks, want_checks, move_checks, pairs_of, device_high, setting_high, same_device, tested, tests_off, surcharges_off, lengths_off, times_off, extra}
+use Rattle.model.specs.Contents.{slot}
+use Rattle.model.specs.Calls.{lawful_slot, counts_off, open_checks, want_checks, move_checks, pairs_of, device_high, setting_high, same_device, tested, tests_off, lengths_off, times_off, extra}
 use Rattle.model.proofs.Ranks.{tests_scene}
-use Rattle.theory.specs.Wellformed.{LawfulShape, Within, Absent, Distinct, LawfulPairs, LawfulSurcharge, LawfulMove, LawfulSlot, WellFormed, ContentsTold}
+use Rattle.theory.specs.Wellformed.{LawfulShape, Within, Distinct, LawfulPairs, LawfulSurcharge, LawfulMove, LawfulSlot, ContentsTold}
 
 -- where a list of checks passes, no refusal of it holds
 pub no_refusal : (cs : List Check) → passes cs ≡ true → All (λ c. c.holds ≡ false) cs

@@ -1,5 +1,5 @@
 -- Runs of accepted performs, in the words of the calls. Assumes nothing.
-use Rattle.std.specs.Prelude.{◌≡◌, ℕ, ◌+◌, true, ◌↔◌, List, [], ◌∷◌, Ok, Err}
+use Rattle.std.specs.Prelude.{◌≡◌, ℕ, ◌+◌, true, ◌↔◌, List, [], ◌∷◌, Ok}
 use Rattle.model.specs.Masks.{wanted}
 use Rattle.model.specs.Contents.{Contents, with_scene}
 use Rattle.model.specs.Calls.{performs, performed, Lawful}
