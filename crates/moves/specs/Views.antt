@@ -1,5 +1,5 @@
 -- The types of the code, as the definitions see them. Assumes nothing.
-use Rattle.std.specs.Prelude.{ℕ, List, map, Some, None, Option}
+use Rattle.std.specs.Prelude.{List, map, Some, None, Option}
 use Rattle.lists.specs.Shorts.{listed}
 use Rattle.model.specs.Moves as model
 use Rattle.moves.specs.declared.pair.Pair.{Pair}
