@@ -1,6 +1,6 @@
 -- Charts by strides: a scene's place is a block, a setting of one device, and a rest. Assumes nothing.
 use Rattle.std.proofs.Common.{◌≡◌, ℕ, zero, suc, ◌+◌, ◌*◌, ◌<◌, List, [], ◌∷◌, length, get_or, take, drop, set, None, sym, ap, ◌∙◌, subst, mul_assoc, add-mul, add-one, arith}
-use Rattle.model.specs.Scenes.{Shape, Scene, SceneOf, size, scenes, rank}
+use Rattle.model.specs.Scenes.{Shape, Scene, SceneOf, size, rank}
 use Rattle.model.specs.Charts.{Time, Chart, at, dialled, put_chart}
 use Rattle.model.proofs.Ranks.{rank_less, rank_set, setting_less, same_charts, tabulated, tabulated_length}
 use Rattle.model.proofs.Sizes.{size_split, digit_more}

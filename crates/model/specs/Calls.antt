@@ -1,5 +1,5 @@
 -- The calls on a rig: what each answers and leaves. Assumes nothing.
-use Rattle.std.specs.Prelude.{◌≡◌, ℕ, ◌+◌, ◌<◌, Bool, true, false, cond, not, ◌&&◌, ◌||◌, leb, List, [], ◌∷◌, ◌++◌, map, length, replicate, is_some, Some, None, Ok, Err, Option, Result, ◌==◌, nat_eq, nat_le, nat_lt, slice_index}
+use Rattle.std.specs.Prelude.{◌≡◌, ℕ, ◌+◌, ◌<◌, Bool, true, false, not, ◌&&◌, ◌||◌, leb, List, [], ◌∷◌, ◌++◌, map, length, replicate, is_some, Some, None, Ok, Err, Option, Result, ◌==◌, nat_eq, nat_le, nat_lt, slice_index}
 use Rattle.model.specs.Limits.{outside, least_byte, most_byte, most_slots, most_conditions, most_effects, most_surcharges, most_tests, most_tenths}
 use Rattle.model.specs.Lists.{total, some, some_two, repeats, count}
 use Rattle.model.specs.Scenes.{Shape, Scene, shape_off, scenes}

@@ -1,5 +1,5 @@
 -- What a rig holds. Assumes nothing.
-use Rattle.std.specs.Prelude.{ℕ, List, Some, None, Option, slice_index_or, slice_set}
+use Rattle.std.specs.Prelude.{ℕ, List, None, Option, slice_index_or, slice_set}
 use Rattle.model.specs.Scenes.{Shape, Scene}
 use Rattle.model.specs.Moves.{Move}
 

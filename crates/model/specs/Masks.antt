@@ -1,6 +1,6 @@
 -- Masks, and the scenes that they want (the goal states). Assumes nothing.
-use Rattle.std.specs.Prelude.{ℕ, ◌-◌, ◌*◌, ◌/◌, ◌%◌, ◌^◌, Bool, true, false, ◌&&◌, ◌||◌, List, [], ◌∷◌, map, ◌==◌, count_ones, nat_le}
-use Rattle.model.specs.Scenes.{Shape, Scene}
+use Rattle.std.specs.Prelude.{ℕ, ◌-◌, ◌*◌, ◌/◌, ◌%◌, ◌^◌, Bool, true, ◌&&◌, ◌||◌, List, [], ◌∷◌, ◌==◌, count_ones, nat_le}
+use Rattle.model.specs.Scenes.{Scene}
 
 -- bit d of a mask admits setting d
 abbrev pub admits : ℕ → ℕ → Bool

@@ -1,5 +1,5 @@
 -- The parts of a chart, and the fill of a diagram shelf: how many different parts some charts have. Assumes nothing.
-use Rattle.std.specs.Prelude.{ℕ, zero, suc, ◌+◌, ◌-◌, Bool, true, false, cond, ◌&&◌, List, [], ◌∷◌, map, length, take, drop, Some, None, Option, ◌==◌}
+use Rattle.std.specs.Prelude.{ℕ, zero, suc, ◌+◌, ◌-◌, Bool, cond, ◌&&◌, List, [], ◌∷◌, map, take, drop, Some, None, ◌==◌}
 use Rattle.std.specs.List.{flat_map}
 use Rattle.model.specs.Lists.{some}
 use Rattle.model.specs.Scenes.{Shape, size}

@@ -1,5 +1,5 @@
 -- What the order of the scenes promises, and the scene at a place in it. Assumes nothing.
-use Rattle.std.specs.Prelude.{◌≡◌, ℕ, ◌/◌, ◌%◌, List, [], ◌∷◌, map, length}
+use Rattle.std.specs.Prelude.{◌≡◌, ℕ, ◌/◌, ◌%◌, [], ◌∷◌, map, length}
 use Rattle.model.specs.Scenes.{Shape, Scene, SceneOf, size, scenes}
 use Rattle.model.specs.Charts.{Time, at}
 

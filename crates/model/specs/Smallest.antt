@@ -1,6 +1,6 @@
 -- Where several refusals hold, the smallest number is answered: for every call. Assumes nothing.
-use Rattle.std.specs.Prelude.{ℕ, not, ◌||◌, List, [], ◌∷◌, ◌++◌, length, nat_le}
-use Rattle.model.specs.Refusals.{Check, refuse, Smallest}
+use Rattle.std.specs.Prelude.{ℕ, ◌||◌, List, [], ◌∷◌, ◌++◌, length, nat_le}
+use Rattle.model.specs.Refusals.{refuse, Smallest}
 use Rattle.model.specs.Scenes.{Shape, Scene}
 use Rattle.model.specs.Moves.{Surcharge, Move}
 use Rattle.model.specs.Contents.{Contents, Name}

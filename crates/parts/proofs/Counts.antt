@@ -1,9 +1,9 @@
 -- Lists with no element twice, and how many different elements a list has. Assumes nothing.
-use Rattle.std.proofs.Common.{◌≡◌, ℕ, zero, suc, ◌+◌, ◌<◌, ◌≤◌, Bool, true, false, cond, ◌&&◌, ◌||◌, eqb, ◌⊎◌, List, [], ◌∷◌, ◌++◌, map, length, Some, None, Option, sym, refl, ap, ◌∙◌, subst, inl, inr, arith}
+use Rattle.std.proofs.Common.{◌≡◌, ℕ, zero, suc, ◌+◌, ◌<◌, ◌≤◌, Bool, true, false, cond, ◌&&◌, ◌||◌, eqb, ◌⊎◌, List, [], ◌∷◌, length, Some, None, sym, refl, ap, ◌∙◌, subst, inl, inr, arith}
 use Rattle.std.proofs.lemmas.Bool.{both_ways, cases_eq, eqb-true, eq-eqb}
 use Rattle.model.specs.Charts.{Time, Chart, same_time, same_chart}
 use Rattle.model.specs.Lists.{In, some}
-use Rattle.model.specs.Parts.{Part, same_part, different}
+use Rattle.model.specs.Parts.{same_part, different}
 
 -- x is in the list, by a test
 abbrev has : {A : Type 0} → (A → A → Bool) → A → List A → Bool

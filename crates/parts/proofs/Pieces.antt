@@ -1,14 +1,13 @@
 -- Charts cut into pieces and put together, and charts that are later throughout. Assumes nothing.
-use Rattle.std.proofs.Common.{◌≡◌, ℕ, zero, suc, ◌+◌, ◌-◌, ◌*◌, ◌<◌, ◌≤◌, min, Bool, true, false, ◌⊎◌, List, [], ◌∷◌, ◌++◌, map, length, take, drop, is_some, Some, None, Option, sym, refl, ap, ◌∙◌, subst, inl, inr, suc-mul, arith, length-append}
+use Rattle.std.proofs.Common.{◌≡◌, ℕ, zero, suc, ◌+◌, ◌*◌, min, ◌⊎◌, List, [], ◌∷◌, ◌++◌, map, length, drop, is_some, Some, None, sym, refl, ap, ◌∙◌, subst, inl, inr, suc-mul, arith, length-append}
 use mathlib.Core.List.{map-map, map-append}
-use lib.ListN.{length-map}
 use Rattle.std.proofs.lemmas.Bool.{both_ways}
 use Rattle.std.proofs.lemmas.List.{take_at, drop_at, take-map, drop-map}
 use Rattle.std.specs.List.{AllByRecursion as All, flat_map}
 use Rattle.model.specs.Charts.{Time, Chart, plus, lesser}
 use Rattle.model.specs.Lists.{In}
-use Rattle.model.specs.Parts.{Part, least, less, lowered, pieces, parts}
-use Rattle.model.specs.Scenes.{Shape, size}
+use Rattle.model.specs.Parts.{least, less, lowered, pieces, parts}
+use Rattle.model.specs.Scenes.{size}
 use Rattle.parts.specs.Shifts.{later, zeroed}
 
 -- ---- lists

@@ -1,11 +1,11 @@
 -- Charts that are made of a function of scenes, device by device. Assumes nothing.
-use Rattle.std.proofs.Common.{◌≡◌, ℕ, zero, suc, ◌+◌, ◌*◌, ◌<◌, ◌≤◌, List, [], ◌∷◌, ◌++◌, map, length, get_or, take, drop, set, Some, None, Option, sym, refl, ap, ◌∙◌, subst, suc-mul, arith}
+use Rattle.std.proofs.Common.{◌≡◌, ℕ, zero, suc, ◌+◌, ◌*◌, ◌<◌, ◌≤◌, List, [], ◌∷◌, ◌++◌, map, length, get_or, drop, set, Some, None, sym, refl, ap, ◌∙◌, suc-mul, arith}
 use mathlib.Core.List.{map-map}
 use Rattle.std.specs.List.{range_with_len, flat_map}
 use Rattle.std.proofs.lemmas.List.{get_or-take, get_or-drop}
 use Rattle.model.specs.Charts.{Time, Chart, at, plus, dialled, put_chart}
 use Rattle.model.specs.Parts.{pieces}
-use Rattle.model.specs.Scenes.{Shape, Scene, SceneOf, scenes, size, rank}
+use Rattle.model.specs.Scenes.{Shape, Scene, scenes, size, rank}
 use Rattle.model.proofs.Ranks.{rank_less, set_scene, tabulated_as, tabulated_self}
 use Rattle.parts.specs.Shifts.{later}
 use Rattle.parts.proofs.Pieces.{map_each, each_same}

@@ -1,4 +1,3 @@
-use Rattle.model.specs.Parts.{same_part}
 use Rattle.parts.proofs.Pieces.{parts_later}
 use Rattle.parts.proofs.shifts_keep_parts.Goals as goal
 
