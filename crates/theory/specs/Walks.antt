@@ -1,5 +1,5 @@
 -- The greedy walk: from each scene the action of the smallest number that loses no time. Assumes nothing.
-use Rattle.std.specs.Prelude.{◌≡◌, ℕ, zero, suc, ◌<◌, Bool, true, false, cond, ◌⊎◌, ◌↔◌, List, [], ◌∷◌, length, take, Some, None, Option, ◌==◌, ◌≢◌, slice_index, slice_index_or}
+use Rattle.std.specs.Prelude.{◌≡◌, ℕ, zero, suc, ◌<◌, Bool, true, false, cond, ◌⊎◌, ◌↔◌, List, [], ◌∷◌, length, take, Some, None, Option, ◌==◌, ◌≢◌, slice_index}
 use Rattle.model.specs.Scenes.{Shape, Scene, SceneOf}
 use Rattle.model.specs.Charts.{Time}
 use Rattle.theory.specs.Actions.{Action, Table, numbered, LawfulTable, Run}
@@ -18,7 +18,7 @@ pub record Smaller (is js : List ℕ) : Type 0 where
   pub in_first : place < length is
   pub in_second : place < length js
   pub same : take place is ≡ take place js
-  pub smaller : slice_index_or is place 0 < slice_index js place
+  pub smaller : slice_index is place < slice_index js place
 
 abbrev pub BeforeTold : Type 0
 BeforeTold = (is js : List ℕ) → Before is js ↔ ((is ≡ js) ⊎ Smaller is js)
