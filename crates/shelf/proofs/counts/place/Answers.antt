@@ -17,15 +17,15 @@ returns-then-scene-i c =
     let high = some_two_here leb ns xs i c.loop-i.invariant.1 0 0 c.loop-i-test.true (omega arith) (le-leb (get_or ns i 0) (get_or xs i 0) c.if-scene-i.true) in
     record { answer = rw (counts, high) }
 
-pub overflow-mul-place : goal.overflow-mul-place
-overflow-mul-place c =
+pub overflow_mul-place : goal.overflow_mul-place
+overflow_mul-place c =
     let ns = c.args.settings.now in
     let xs = c.args.scene.now in
     let i = c.loop-i.i in
     omega (arith, digit_more c.loop-i.place (get_or xs i 0) (get_or ns i 0) (size (take i ns)) c.loop-i.invariant.2 c.if-scene-i.false, size_more ns i c.loop-i-test.true, size_take_most ns (i + 1) c.requires.legal c.requires.few (omega arith))
 
-pub overflow-add-place : goal.overflow-add-place
-overflow-add-place c =
+pub overflow_add-place : goal.overflow_add-place
+overflow_add-place c =
     let ns = c.args.settings.now in
     let xs = c.args.scene.now in
     let i = c.loop-i.i in
