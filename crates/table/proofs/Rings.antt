@@ -1,11 +1,10 @@
 -- Steps round a ring, and what a search has passed.
-use Rattle.std.proofs.Common.{◌≡◌, ℕ, ◌+◌, ◌-◌, ◌<◌, ◌≤◌, Bool, true, false, cond, leb, ◌≢◌, ◌⊎◌, List, length, get_or, set, is_some, Some, None, Option, sym, refl, ap, ◌∙◌, subst, subst₂, inl, inr, arith}
-use native.Mathlib.Decide.{dec_lt}
+use Rattle.std.proofs.Common.{◌≡◌, ℕ, ◌+◌, ◌<◌, true, ◌⊎◌, List, length, set, is_some, Some, None, Option, sym, ap, ◌∙◌, subst, subst₂, inl, inr, arith}
 use Rattle.std.proofs.lemmas.Bool.Decides.{nat_tests}
 use Rattle.std.proofs.lemmas.Bool.{both_ways, cases_order, cases_eq}
 use Rattle.std.proofs.lemmas.List.{get_or-set_same, get_or-set_other, length-set}
-use Rattle.table.specs.Tables.{steps, slot, Reached, Probed, Absent, Apart, Table, Kept, Empty}
-use Rattle.table.specs.Finds.{Open, Holds, Crowded, Placed}
+use Rattle.table.specs.Tables.{steps, slot, Probed, Absent, Apart, Table, Kept, Empty}
+use Rattle.table.specs.Finds.{Open}
 
 -- every slot nearer than t steps to e's initial holds an entry, and not one alike to e
 abbrev pub Passed : {E : Type 0} → (E → E → Type 0) → (E → ℕ → ℕ) → List (Option E) → E → ℕ → Type 0

@@ -1,5 +1,5 @@
 -- Open-addressed slots: a ring of slots, each free or with one entry. Assumes nothing.
-use Rattle.std.specs.Prelude.{◌≡◌, ℕ, ◌+◌, ◌-◌, ◌<◌, Bool, true, false, cond, List, length, is_some, Some, None, Option, nat_le, slice_index_or}
+use Rattle.std.specs.Prelude.{◌≡◌, ℕ, ◌+◌, ◌-◌, ◌<◌, true, cond, List, length, is_some, Some, None, Option, nat_le, slice_index_or}
 
 -- how many steps round a ring of n slots lead from h to k
 abbrev pub steps : ℕ → ℕ → ℕ → ℕ

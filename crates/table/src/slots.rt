@@ -7,8 +7,8 @@ use crate::found::Found;
 
 /// Looks for the entry with the key of `e`, slot by slot from its start, round the slice.
 pub fn find<E: Entry>(slots: &[Option<E>], e: &E) -> Found
-    requires { Table alike initial slots.now }
-    ensures { Finds alike initial slots.now e.now result }
+    requires { Table E.alike E.initial slots.now }
+    ensures { Finds E.alike E.initial slots.now e.now result }
 {
     let n = slots.len();
     if n == 0 {
@@ -31,10 +31,10 @@ pub fn find<E: Entry>(slots: &[Option<E>], e: &E) -> Found
 
 /// Puts an entry into the free slot that a search for it found.
 pub fn place<E: Entry>(slots: &mut [Option<E>], i: usize, e: E)
-    requires open { Open alike initial slots.old e i }
-    requires table { Table alike initial slots.old }
+    requires open { Open E.alike E.initial slots.old e i }
+    requires table { Table E.alike E.initial slots.old }
     ensures after { slots.new ≡ slice_set slots.old i (Some e) }
-    ensures table { Table alike initial slots.new }
+    ensures table { Table E.alike E.initial slots.new }
 {
     slots[i] = Some(e);
 }
@@ -42,7 +42,7 @@ pub fn place<E: Entry>(slots: &mut [Option<E>], i: usize, e: E)
 /// Makes every slot free.
 pub fn clear<E: Entry>(slots: &mut [Option<E>])
     ensures empty { Empty slots.new }
-    ensures table { Table alike initial slots.new }
+    ensures table { Table E.alike E.initial slots.new }
 {
     for s in slots.iter_mut() {
         *s = None;
@@ -51,10 +51,10 @@ pub fn clear<E: Entry>(slots: &mut [Option<E>])
 
 /// The slot of the entry with the key of `e`, which is placed where there is none; none where no slot is free.
 pub fn intern<E: Entry>(slots: &mut [Option<E>], e: E) -> Option<usize>
-    requires { Table alike initial slots.old }
-    ensures table { Table alike initial slots.new }
+    requires { Table E.alike E.initial slots.old }
+    ensures table { Table E.alike E.initial slots.new }
     ensures kept { Kept slots.old slots.new }
-    ensures interned { Interned alike slots.old slots.new e result }
+    ensures interned { Interned E.alike slots.old slots.new e result }
 {
     match find(slots, &e) {
         Found::At(i) => Some(i),

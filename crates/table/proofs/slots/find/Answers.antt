@@ -1,4 +1,4 @@
-use Rattle.std.proofs.Common.{◌<◌, length, Some, None, sym, refl, ◌∙◌, arith, rules}
+use Rattle.std.proofs.Common.{length, None, sym, refl, ◌∙◌, arith}
 use Rattle.std.proofs.lemmas.List.{get_or_read}
 use Rattle.std.proofs.lemmas.Bool.Decides.{not_from_Decides}
 use Rattle.table.proofs.Rings.{free_absent, passed_more, steps_next, steps_wrap}
@@ -24,7 +24,7 @@ loop-t-preserved g c =
     let inv = c.loop-t.invariant in
     let at = inv.2 c.loop-t-test.true in
     let here = sym (get_or_read c.args.slots.now c.loop-t.i c.index-slots-i.result inv.0 c.index-slots-i.is None) ∙ c.in-Some.is in
-    let passed = passed_more m.alike m.initial c.args.slots.now c.args.e.now c.loop-t.i c.loop-t.t c.in-Some.x inv.0 inv.3 at here (not_from_Decides c.same-key.result c.same-key.ensures c.if-same-key.false) inv.4 in
+    let passed = passed_more m.alike m.initial c.args.slots.now c.args.e.now c.loop-t.i c.loop-t.t c.in-Some.x inv.0 inv.3 at here (not_from_Decides c.same_key.result c.same_key.ensures c.if-same_key.false) inv.4 in
     let n = length c.args.slots.now in
     let h = m.initial c.args.e.now n in
     let i = c.loop-t.i in

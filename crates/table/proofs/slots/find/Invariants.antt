@@ -1,4 +1,4 @@
-use Rattle.std.proofs.Common.{◌≡◌, ℕ, ◌<◌, length}
+use Rattle.std.proofs.Common.{◌≡◌, ◌<◌, length}
 use Rattle.table.proofs.Rings.{Passed}
 use Rattle.table.specs.Tables.{steps}
 use Rattle.table.proofs.slots.find.Given as goal
