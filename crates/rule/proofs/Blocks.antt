@@ -1,16 +1,16 @@
 -- What the calls of one move hang. Assumes nothing.
-use Rattle.std.proofs.Common.{◌≡◌, ℕ, ◌+◌, ◌<◌, ◌≤◌, Bool, true, false, cond, eqb, List, [], ◌∷◌, ◌++◌, length, get_or, set, Some, None, Option, sym, refl, ap, ◌∙◌, subst, arith}
+use Rattle.std.proofs.Common.{◌≡◌, ℕ, ◌≤◌, Bool, cond, eqb, List, [], ◌∷◌, ◌++◌, length, get_or, set, Some, None, Option, sym, refl, ap, ◌∙◌, subst, arith}
 use Rattle.std.specs.List.{AllByRecursion as All}
 use Rattle.std.proofs.lemmas.List.{set_comm}
 use Rattle.model.specs.Lists.{total}
 use Rattle.model.specs.Scenes.{Shape, Scene, SceneOf}
 use Rattle.model.specs.Charts.{Time, Chart, lesser, plus, zipped, dialled}
 use Rattle.model.specs.Moves.{Pair, Surcharge, Move, holds, all_hold, charged, time, applied}
-use Rattle.model.specs.Shelves.{Pegs, Call, dial, cheaper, sum, put, chart_of, after}
+use Rattle.model.specs.Shelves.{Pegs, Call, sum, chart_of, after}
 use Rattle.theory.specs.Iteration.{later, through}
 use Rattle.theory.specs.Wellformed.{Within, Absent, Distinct, LawfulSurcharge, LawfulMove}
 use Rattle.theory.specs.Tables.{action_of}
-use Rattle.rule.specs.Steps.{entries, only, dearer, copy, effected, conditioned, based, further, tested, surcharged, tried}
+use Rattle.rule.specs.Steps.{entries, only, dearer, effected, conditioned, based, further, tested, surcharged, tried}
 use Rattle.rule.specs.Running.{ran}
 use Rattle.rule.specs.Bridge.{tab}
 use Rattle.rule.proofs.Tabs.{Few, holds_is, tab_as, tab_zipped, tab_dialled, tab_put, lesser_same, plus_only, plus_later, later_zero, later_later, later_cond, both, cond_both, both_true, both_assoc, lesser_cond, cond_some}

@@ -1,5 +1,5 @@
 -- How many rounds there are. Assumes nothing.
-use Rattle.std.proofs.Common.{◌≡◌, ℕ, zero, suc, ◌+◌, ◌<◌, ◌≤◌, Bool, true, false, cond, ◌≢◌, ◌⊎◌, List, [], ◌∷◌, Some, None, sym, refl, ap, ◌∙◌, subst, ⊎_elim, arith}
+use Rattle.std.proofs.Common.{◌≡◌, ℕ, zero, suc, ◌+◌, ◌<◌, ◌≤◌, Bool, true, false, cond, ◌≢◌, [], ◌∷◌, Some, None, refl, ap, ◌∙◌, subst, ⊎_elim, arith}
 use Rattle.std.proofs.lemmas.Bool.{eqb-true, eq-eqb, both_ways, false≢true, cases_lt, cases_order, and_parts}
 use Rattle.model.specs.Charts.{Time, Chart, same_time, same_chart}
 use Rattle.model.specs.Scenes.{size}
@@ -12,7 +12,7 @@ use Rattle.theory.proofs.Alikes.{tables_alike, rounds_alike}
 use Rattle.theory.proofs.Cycles.{rounds_stop}
 use Rattle.theory.proofs.Tabling.{tables_lawful}
 use Rattle.rule.specs.Rule.{chart_after, settles, count}
-use Rattle.rule.specs.Bridge.{Counts, RoundsCounted, CountsAlike}
+use Rattle.rule.specs.Bridge.{RoundsCounted, CountsAlike}
 
 same_time_is : (x y : Time) → same_time x y ≡ true → x ≡ y
 same_time_is None None h = refl

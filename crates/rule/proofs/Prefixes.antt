@@ -1,12 +1,12 @@
 -- Steps up to a step: what overfills first, and one round more. Assumes nothing.
-use Rattle.std.proofs.Common.{◌≡◌, ℕ, zero, suc, ◌+◌, ◌-◌, ◌≤◌, Bool, true, false, cond, List, [], ◌∷◌, ◌++◌, Some, None, Option, sym, refl, ap, ◌∙◌, subst, arith}
+use Rattle.std.proofs.Common.{◌≡◌, ℕ, zero, suc, ◌+◌, ◌-◌, Bool, true, false, cond, List, [], ◌∷◌, ◌++◌, Some, None, Option, sym, refl, ap, ◌∙◌, subst, arith}
 use Rattle.std.specs.List.{range_with_len, flat_map}
 use Rattle.std.proofs.lemmas.List.{append_assoc, append-nil}
 use Rattle.model.specs.Moves.{Move}
 use Rattle.model.specs.Shelves.{Meaning, after, with_pegs, overfills}
-use Rattle.rule.specs.Steps.{Step, calls, copy, marked, round_0, round, changing}
+use Rattle.rule.specs.Steps.{Step, copy, marked, round_0, round, changing}
 use Rattle.rule.specs.Running.{after_steps, first_overfilling, Fits, First, Told, OverfillingTold}
-use Rattle.rule.specs.Rule.{count, start, so_far, rule}
+use Rattle.rule.specs.Rule.{count, start, so_far}
 use Rattle.rule.specs.Bridge.{RuleGoesOn}
 
 nil_is_not : (x : Step) (done left : List Step) → [] ≡ done ++ (x ∷ left) → ⊥

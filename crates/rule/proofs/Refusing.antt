@@ -1,18 +1,18 @@
 -- The whole rule can be refused for want of room alone. Assumes nothing.
-use Rattle.std.proofs.Common.{◌≡◌, ℕ, zero, suc, ◌+◌, ◌*◌, ◌^◌, ◌<◌, ◌≤◌, Bool, true, false, cond, List, [], ◌∷◌, ◌++◌, length, get_or, Some, None, Option, sym, refl, ap, ◌∙◌, subst, mul-le-mul_right, arith}
+use Rattle.std.proofs.Common.{◌≡◌, ℕ, zero, suc, ◌+◌, ◌*◌, ◌^◌, ◌≤◌, Bool, true, false, cond, List, [], ◌∷◌, ◌++◌, length, Some, None, Option, sym, refl, ap, ◌∙◌, subst, mul-le-mul_right, arith}
 use Rattle.std.specs.List.{range_with_len, flat_map, AllByRecursion as All}
 use Rattle.model.specs.Limits.{greatest_time, most_tenths, most_settings, most_devices, peg_count}
 use Rattle.model.specs.Scenes.{Shape, size}
-use Rattle.model.specs.Charts.{Time, Chart, lesser, plus, zipped, dialled}
+use Rattle.model.specs.Charts.{Chart, lesser, plus, zipped, dialled}
 use Rattle.model.specs.Masks.{admits}
 use Rattle.model.specs.Moves.{Move}
 use Rattle.model.specs.Contents.{Contents}
 use Rattle.model.specs.Calls.{Lawful}
-use Rattle.model.specs.Shelves.{Pegs, Meaning, Call, dial, cheaper, sum, put, with_pegs}
-use Rattle.theory.specs.Wellformed.{LawfulShape, LawfulMove, LawfulSlot}
+use Rattle.model.specs.Shelves.{Pegs, Meaning, Call, cheaper, with_pegs}
+use Rattle.theory.specs.Wellformed.{LawfulShape, LawfulSlot}
 use Rattle.theory.proofs.Told.{contents_told}
 use Rattle.rule.specs.Steps.{entries, admitted, copy, masked, round_0, tried, of_slot, Step, calls, marked, by_moves, round, changing}
-use Rattle.rule.specs.Running.{ran, OnlyRoom, OnlyRoomIn}
+use Rattle.rule.specs.Running.{ran, OnlyRoomIn}
 use Rattle.rule.specs.Rule.{count, start, so_far, rule}
 use Rattle.rule.specs.Bridge.{RuleOnlyRoom}
 use Rattle.rule.proofs.Blocks.{ran_append}
@@ -21,7 +21,7 @@ use Rattle.rule.proofs.Counts.{rounds_counted}
 use Rattle.rule.proofs.Whole.{five}
 use Rattle.rule.proofs.Bounds.{Upto, Most, most_more, most_cheaper, most_sum, sum_not_late, size_most}
 use Rattle.rule.proofs.Rooms.{cheapens, sums, only_append, only_at, upper_kept}
-use Rattle.rule.proofs.Unrefused.{Kept, Unrefused, rest_unrefused, dials_small, dialled_small}
+use Rattle.rule.proofs.Unrefused.{rest_unrefused, dials_small, dialled_small}
 
 upto_admitted : (mask x : ℕ) → Upto 0 (admitted mask x)
 upto_admitted mask x = go (admits mask x)

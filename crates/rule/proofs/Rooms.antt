@@ -1,15 +1,13 @@
 -- Calls of which no refusal but "no room" can hold. Assumes nothing.
-use Rattle.std.proofs.Common.{◌≡◌, ℕ, zero, suc, ◌+◌, ◌<◌, ◌≤◌, Bool, true, false, cond, ◌&&◌, ◌||◌, ltb, leb, ◌⊎◌, List, [], ◌∷◌, ◌++◌, length, get_or, take, set, is_some, Some, None, Ok, Err, Option, Result, sym, refl, ap, ◌∙◌, subst, inl, inr, ⊎_elim, arith}
+use Rattle.std.proofs.Common.{◌≡◌, ℕ, ◌<◌, ◌≤◌, false, ◌&&◌, ◌||◌, ltb, leb, ◌⊎◌, List, [], ◌∷◌, ◌++◌, length, get_or, take, None, Err, refl, ap, ◌∙◌, subst, inl, inr, arith}
 use Rattle.std.specs.List.{AllByRecursion as All}
 use Rattle.std.proofs.lemmas.List.{get_or-set_other}
 use Rattle.std.proofs.lemmas.Bool.{lt-leb, and_right, cond-false}
-use Rattle.model.specs.Limits.{greatest_time}
 use Rattle.model.specs.Lists.{In, some}
 use Rattle.model.specs.Refusals.{Check, refuse, answer}
-use Rattle.model.specs.Scenes.{Shape}
-use Rattle.model.specs.Charts.{Time, Chart, plus, greatest, late}
+use Rattle.model.specs.Charts.{Time, plus, greatest, late}
 use Rattle.model.specs.Moves.{Pair}
-use Rattle.model.specs.Shelves.{Pegs, Meaning, Call, dial, cheaper, sum, put, target, on, bare, high, after, with_pegs, overfills, no_room, call_checks, does}
+use Rattle.model.specs.Shelves.{Meaning, Call, dial, cheaper, sum, put, target, on, bare, high, after, with_pegs, no_room, call_checks}
 use Rattle.theory.specs.Wellformed.{Within}
 use Rattle.rule.specs.Steps.{Step, calls}
 use Rattle.rule.specs.Running.{ran, after_steps, OnlyRoom, OnlyRoomIn}

@@ -1,12 +1,12 @@
 -- What round 0 and a later round hang. Assumes nothing.
-use Rattle.std.proofs.Common.{◌≡◌, ℕ, ◌+◌, ◌<◌, ◌≤◌, cond, List, [], ◌∷◌, ◌++◌, length, get_or, drop, Some, None, Option, sym, refl, ap, ◌∙◌, subst, arith}
+use Rattle.std.proofs.Common.{◌≡◌, ℕ, ◌+◌, ◌≤◌, cond, List, [], ◌∷◌, ◌++◌, length, get_or, drop, Some, None, Option, sym, refl, ap, ◌∙◌, subst, arith}
 use Rattle.std.specs.List.{AllByRecursion as All}
 use Rattle.std.proofs.lemmas.List.{drop_more}
 use Rattle.model.specs.Scenes.{Shape, Scene, SceneOf}
 use Rattle.model.specs.Charts.{Time, Chart, lesser, plus, zipped, dialled}
 use Rattle.model.specs.Masks.{admits, wanted}
 use Rattle.model.specs.Moves.{Move}
-use Rattle.model.specs.Shelves.{Pegs, Call, dial, cheaper, sum, put}
+use Rattle.model.specs.Shelves.{Pegs, Call, cheaper}
 use Rattle.model.proofs.Ranks.{scene_length}
 use Rattle.theory.specs.Iteration.{through, best, relax, initial}
 use Rattle.theory.specs.Wellformed.{LawfulSlot}
@@ -15,7 +15,7 @@ use Rattle.rule.specs.Steps.{entries, admitted, copy, masked, round_0, tried, of
 use Rattle.rule.specs.Running.{ran}
 use Rattle.rule.specs.Bridge.{tab}
 use Rattle.rule.proofs.Tabs.{Few, tab_as, tab_zipped, tab_dialled, lesser_same, lesser_never, plus_only, cond_and}
-use Rattle.rule.proofs.Blocks.{ran_append, Now, tried_ran}
+use Rattle.rule.proofs.Blocks.{ran_append, tried_ran}
 
 pub calls_append : (xs ys : List Step) → calls (xs ++ ys) ≡ calls xs ++ calls ys
 calls_append [] ys = refl

@@ -1,11 +1,11 @@
 -- Charts that functions make, and the laws of entries. Assumes nothing.
-use Rattle.std.proofs.Common.{◌≡◌, ℕ, zero, suc, ◌+◌, ◌<◌, ◌≤◌, min, Bool, true, false, cond, ◌&&◌, eqb, ltb, List, [], ◌∷◌, map, length, get_or, set, Some, None, sym, refl, ap, ◌∙◌, arith}
+use Rattle.std.proofs.Common.{◌≡◌, ℕ, zero, suc, ◌+◌, ◌<◌, ◌≤◌, min, Bool, true, false, cond, ◌&&◌, eqb, ltb, List, [], ◌∷◌, map, length, get_or, set, Some, None, refl, ap, arith}
 use Rattle.std.specs.List.{AllByRecursion as All}
 use Rattle.std.proofs.lemmas.List.FromFn.{get_or-map-range_with_len}
 use Rattle.std.proofs.lemmas.Bool.{lt-ltb, cond-true}
 use Rattle.model.specs.Limits.{most_settings}
 use Rattle.model.specs.Scenes.{Shape, Scene, SceneOf, scenes}
-use Rattle.model.specs.Charts.{Time, Chart, lesser, plus, zipped, dialled, put_chart}
+use Rattle.model.specs.Charts.{Time, lesser, plus, zipped, dialled, put_chart}
 use Rattle.model.specs.Moves.{Pair, holds}
 use Rattle.model.proofs.Ranks.{tabulated, tabulated_as, scene_length, set_scene}
 use Rattle.theory.specs.Iteration.{later}

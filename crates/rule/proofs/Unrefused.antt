@@ -1,5 +1,5 @@
 -- The calls of one move can be refused for want of room alone, and keep its times small. Assumes nothing.
-use Rattle.std.proofs.Common.{◌≡◌, ℕ, ◌+◌, ◌<◌, ◌≤◌, Bool, true, false, cond, eqb, List, [], ◌∷◌, ◌++◌, length, get_or, take, Some, None, Option, sym, refl, ap, ◌∙◌, subst, arith}
+use Rattle.std.proofs.Common.{◌≡◌, ℕ, ◌+◌, ◌<◌, ◌≤◌, Bool, true, false, cond, eqb, List, [], ◌∷◌, ◌++◌, length, get_or, Some, None, Option, sym, refl, ap, ◌∙◌, subst, arith}
 use Rattle.std.specs.List.{AllByRecursion as All}
 use Rattle.std.proofs.lemmas.List.{append_assoc}
 use Rattle.model.specs.Limits.{greatest_time, most_tenths}
@@ -7,9 +7,9 @@ use Rattle.model.specs.Lists.{total}
 use Rattle.model.specs.Charts.{Time, Chart, lesser, plus, zipped, dialled, put_chart}
 use Rattle.model.specs.Moves.{Pair, Surcharge, Move}
 use Rattle.model.specs.Calls.{extra}
-use Rattle.model.specs.Shelves.{Pegs, Meaning, Call, dial, cheaper, sum, put, high, with_pegs}
+use Rattle.model.specs.Shelves.{Pegs, Meaning, Call, dial, sum, high, with_pegs}
 use Rattle.theory.specs.Wellformed.{Within, LawfulSurcharge, LawfulMove}
-use Rattle.rule.specs.Steps.{entries, only, dearer, effected, conditioned, based, further, tested, surcharged, tried, of_slot}
+use Rattle.rule.specs.Steps.{entries, only, dearer, effected, conditioned, based, further, tested, surcharged}
 use Rattle.rule.specs.Running.{ran, OnlyRoom, OnlyRoomIn}
 use Rattle.rule.proofs.Blocks.{ran_append}
 use Rattle.rule.proofs.Bounds.{Upto, Most, most_more, most_entries, most_dialled, most_put, most_cheaper, most_sum, sum_not_late, entries_not_late}

@@ -1,8 +1,8 @@
 -- What the whole rule leaves on the pegs. Assumes nothing.
-use Rattle.std.proofs.Common.{◌≡◌, ℕ, zero, suc, ◌+◌, ◌≤◌, Bool, List, [], ◌∷◌, ◌++◌, length, get_or, Some, None, Option, sym, refl, ap, ◌∙◌, subst, arith}
+use Rattle.std.proofs.Common.{◌≡◌, ℕ, zero, suc, ◌+◌, ◌≤◌, Bool, List, [], ◌∷◌, length, get_or, Some, None, Option, sym, refl, ap, ◌∙◌, subst, arith}
 use Rattle.std.specs.List.{range_with_len, flat_map, AllByRecursion as All}
 use Rattle.model.specs.Limits.{peg_count}
-use Rattle.model.specs.Scenes.{Shape, Scene, SceneOf, scenes}
+use Rattle.model.specs.Scenes.{Shape, Scene}
 use Rattle.model.specs.Charts.{Time, Chart, at}
 use Rattle.model.specs.Masks.{wanted}
 use Rattle.model.specs.Moves.{Move}
@@ -15,13 +15,13 @@ use Rattle.theory.specs.Tables.{action_of, table_of}
 use Rattle.theory.proofs.Times.{settled_right}
 use Rattle.theory.proofs.Told.{contents_told}
 use Rattle.theory.proofs.Tabling.{tables_lawful}
-use Rattle.rule.specs.Steps.{calls, marked, round_0, tried, round, changing}
+use Rattle.rule.specs.Steps.{calls, round_0, tried, round, changing}
 use Rattle.rule.specs.Running.{ran}
-use Rattle.rule.specs.Rule.{chart_after, count, start, so_far, rule}
-use Rattle.rule.specs.Bridge.{tab, Tried, MovesTried, RoundsRun, StartsRun, Shown, RoundsShown, Ruled, RuleRight}
+use Rattle.rule.specs.Rule.{chart_after, count, start, so_far}
+use Rattle.rule.specs.Bridge.{tab, MovesTried, RoundsRun, StartsRun, RoundsShown, RuleRight}
 use Rattle.rule.proofs.Tabs.{Few, tab_as}
-use Rattle.rule.proofs.Blocks.{Now, tried_ran}
-use Rattle.rule.proofs.Rounds.{ran_steps, ran_marked, Both, round_ran, Front, changing_ran, round_0_ran}
+use Rattle.rule.proofs.Blocks.{tried_ran}
+use Rattle.rule.proofs.Rounds.{ran_steps, ran_marked, round_ran, Front, changing_ran, round_0_ran}
 use Rattle.rule.proofs.Counts.{rounds_counted}
 
 -- a chart of value iteration is made of its own entries

@@ -1,10 +1,9 @@
 -- What the rule leaves on the pegs, in the words of value iteration. Assumes nothing.
-use Rattle.std.specs.Prelude.{◌≡◌, ℕ, suc, ◌<◌, ◌≤◌, cond, ◌≢◌, List, ◌∷◌, ◌++◌, map, length, get_or, Some, None, Option, slice_index_or}
+use Rattle.std.specs.Prelude.{◌≡◌, ℕ, suc, ◌<◌, ◌≤◌, cond, ◌≢◌, List, ◌∷◌, ◌++◌, map, length, Some, None, Option, slice_index_or}
 use Rattle.std.specs.List.{AllByRecursion as All}
 use Rattle.model.specs.Limits.{peg_count}
 use Rattle.model.specs.Scenes.{Shape, Scene, SceneOf, scenes, size}
 use Rattle.model.specs.Charts.{Time, Chart, at}
-use Rattle.model.specs.Masks.{wanted}
 use Rattle.model.specs.Moves.{Move, all_hold, applied, time}
 use Rattle.model.specs.Contents.{Contents}
 use Rattle.model.specs.Calls.{Lawful}
@@ -26,11 +25,11 @@ tab ns f = map f (scenes ns)
 
 -- peg 2 has at each scene the move's time and the time from the scene after it, and never where a condition fails
 pub record Tried (ns : Shape) (m : Move) (v : Scene → Time) (old new : Pegs) : Type 0 where
-  pub first : get_or new 0 None ≡ slice_index_or old 0 None
-  pub second : get_or new 1 None ≡ slice_index_or old 1 None
+  pub first : slice_index_or new 0 None ≡ slice_index_or old 0 None
+  pub second : slice_index_or new 1 None ≡ slice_index_or old 1 None
   pub upper : (p : ℕ) → 5 ≤ p → slice_index_or new p None ≡ slice_index_or old p None
   pub chart : Chart
-  pub hangs : get_or new 2 None ≡ Some chart
+  pub hangs : slice_index_or new 2 None ≡ Some chart
   pub times : (s : Scene) → SceneOf ns s →
       at ns chart s ≡ cond (all_hold s m.conditions) (later (time m s) (v (applied m.effects s))) None
 
@@ -57,8 +56,8 @@ StartsRun =
 
 -- one round more leaves the next chart on peg 1
 pub record Shown (c : Contents) (n : ℕ) (old new : Pegs) : Type 0 where
-  pub first : get_or new 0 None ≡ Some (chart_after c n)
-  pub second : get_or new 1 None ≡ Some (chart_after c (suc n))
+  pub first : slice_index_or new 0 None ≡ Some (chart_after c n)
+  pub second : slice_index_or new 1 None ≡ Some (chart_after c (suc n))
   pub upper : (p : ℕ) → 5 ≤ p → slice_index_or new p None ≡ slice_index_or old p None
 
 abbrev pub RoundsShown : Type 0
@@ -87,8 +86,8 @@ RuleGoesOn = (c : Contents) (n : ℕ) → n ≤ count c → (left : List Step) �
 
 -- pegs 0 and 1 have the least times of all runs of the rig's moves to a wanted scene
 pub record Ruled (c : Contents) (old new : Pegs) : Type 0 where
-  pub first : get_or new 0 None ≡ Some (chart_after c (count c))
-  pub second : get_or new 1 None ≡ Some (chart_after c (count c))
+  pub first : slice_index_or new 0 None ≡ Some (chart_after c (count c))
+  pub second : slice_index_or new 1 None ≡ Some (chart_after c (count c))
   pub upper : (p : ℕ) → 5 ≤ p → slice_index_or new p None ≡ slice_index_or old p None
   pub right : RightFor c (at c.settings (chart_after c (count c)))
 
