@@ -1,4 +1,4 @@
-use Rattle.std.proofs.Common.{◌≡◌, Bool, true, false, List, sym, ap, ◌∙◌}
+use Rattle.std.proofs.Common.{true, false, List, sym, ap, ◌∙◌}
 use Rattle.model.specs.Lists.{some}
 use Rattle.moves.specs.declared.pair.Pair.{Pair}
 use Rattle.drafts.specs.declared.draft.Charge.{Charge}
@@ -12,14 +12,14 @@ use Rattle.drafts.proofs.judge.some_has.Goals as goal
 pub returns-then-has : goal.returns-then-has
 returns-then-has c =
     let test = flawed c.args.flaw c.args.settings.now in
-    let here = sym c.if-has.true ∙ c.has.ensures ∙ ap (λ (ps : List Pair). flawed c.args.flaw c.args.settings.now (pairs_of ps)) c.as-slice.ensures.value in
+    let here = sym c.if-has.true ∙ c.has.ensures ∙ ap (λ (ps : List Pair). flawed c.args.flaw c.args.settings.now (pairs_of ps)) c.as_slice.ensures.value in
     sym (some_seen test tests_of c.args.charges.now c.loop-charge.charge-index c.charge-item.result true c.loop-charge-test.true (here ∙ ap (λ (x : Charge). flawed c.args.flaw c.args.settings.now (tests_of x)) c.charge-item.is))
     ∙ c.loop-charge.invariant ∙ ap (some test) (tested_seen c.args.charges.now)
 
 pub loop-charge-preserved : goal.loop-charge-preserved
 loop-charge-preserved c =
     let test = flawed c.args.flaw c.args.settings.now in
-    let here = sym c.if-has.false ∙ c.has.ensures ∙ ap (λ (ps : List Pair). flawed c.args.flaw c.args.settings.now (pairs_of ps)) c.as-slice.ensures.value in
+    let here = sym c.if-has.false ∙ c.has.ensures ∙ ap (λ (ps : List Pair). flawed c.args.flaw c.args.settings.now (pairs_of ps)) c.as_slice.ensures.value in
     sym (some_seen test tests_of c.args.charges.now c.loop-charge.charge-index c.charge-item.result false c.loop-charge-test.true (here ∙ ap (λ (x : Charge). flawed c.args.flaw c.args.settings.now (tests_of x)) c.charge-item.is))
     ∙ c.loop-charge.invariant
 

@@ -4,14 +4,14 @@ use Rattle.moves.specs.Views.{pair_of}
 use Rattle.lists.proofs.Loops.{some_seen, some_seen_all}
 use Rattle.drafts.proofs.judge.some_setting_high.Goals as goal
 
-pub returns-then-is-setting-high : goal.returns-then-is-setting-high
-returns-then-is-setting-high c =
-    sym (some_seen (setting_high c.args.settings.now) pair_of c.args.pairs.now c.loop-pair.pair-index _ true c.loop-pair-test.true c.if-is-setting-high.ensures)
+pub returns-then-is_setting_high : goal.returns-then-is_setting_high
+returns-then-is_setting_high c =
+    sym (some_seen (setting_high c.args.settings.now) pair_of c.args.pairs.now c.loop-pair.pair-index _ true c.loop-pair-test.true c.if-is_setting_high.ensures)
     ∙ c.loop-pair.invariant
 
 pub loop-pair-preserved : goal.loop-pair-preserved
 loop-pair-preserved c =
-    sym (some_seen (setting_high c.args.settings.now) pair_of c.args.pairs.now c.loop-pair.pair-index _ false c.loop-pair-test.true c.if-is-setting-high.ensures)
+    sym (some_seen (setting_high c.args.settings.now) pair_of c.args.pairs.now c.loop-pair.pair-index _ false c.loop-pair-test.true c.if-is_setting_high.ensures)
     ∙ c.loop-pair.invariant
 
 pub returns : goal.returns

@@ -1,5 +1,4 @@
-use Rattle.std.proofs.Common.{◌≡◌, ℕ, ◌+◌, ◌-◌, ◌^◌, min, sym, ap, ◌∙◌, arith}
-use Rattle.std.proofs.lemmas.Bool.Decides.{nat_tests}
+use Rattle.std.proofs.Common.{ap, ◌∙◌, arith}
 use Rattle.drafts.specs.declared.draft.Charge.{Charge}
 use Rattle.model.specs.Calls.{extra}
 use Rattle.drafts.specs.Drafts.{charge_of}
@@ -10,7 +9,7 @@ pub loop-charge-preserved : goal.loop-charge-preserved
 loop-charge-preserved c =
     let more = total_seen extra charge_of c.args.charges.now c.loop-charge.charge-index c.charge-item.result c.loop-charge-test.true in
     let here = c.from.ensures ∙ ap (λ (x : Charge). x.extra) c.charge-item.is in
-    let sum = c.saturating-add-sum.ensures in
+    let sum = c.saturating_add-sum.ensures in
     let inv = c.loop-charge.invariant.0 in
     (omega arith, omega arith)
 
