@@ -1,2 +1,3 @@
+pub mod Equals
 pub mod Hashes
 pub mod Keys

@@ -1,6 +1,5 @@
-ghost use Rattle.std.specs.Prelude.{◌≡◌, Decides, nat_eq};
-ghost use Rattle.std.specs.Ordering.{on, eq_of_both};
-ghost use Rattle.std.specs.Option.{option_eq};
+ghost use Rattle.std.specs.Prelude.{◌≡◌, Decides};
+ghost use Rattle.nodes.specs.Equals.{edge_eq};
 ghost use Rattle.std.specs.Cmp.Rules.{comparing};
 ghost use Rattle.std.proofs.Common.{rules};
 
@@ -14,11 +13,14 @@ pub struct Edge {
 }
 
 impl PartialEq for Edge {
-    ghost eq = { eq_of_both (on (λ v. v.weight) (option_eq nat_eq)) (on (λ v. v.child) nat_eq) };
+    ghost eq = { edge_eq };
 
     ghost laws = { Prim.search (comparing, rules) };
 
-    fn eq(&self, other: &Edge) -> bool {
+    fn eq(&self, other: &Edge) -> bool
+        ensures value { result ≡ edge_eq self.now other.now }
+        ensures decides { Decides result (self.now ≡ other.now) }
+    {
         self.weight == other.weight && self.child == other.child
     }
 }

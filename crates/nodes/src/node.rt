@@ -1,5 +1,6 @@
 ghost use Rattle.std.specs.Prelude.{◌≡◌, ◌%◌, Decides};
 ghost use Rattle.nodes.specs.Hashes.{mixed};
+ghost use Rattle.nodes.specs.Equals.{node_eq};
 ghost use Rattle.std.specs.Cmp.Rules.{comparing};
 ghost use Rattle.std.proofs.Common.{rules};
 
@@ -18,11 +19,14 @@ pub struct Node {
 }
 
 impl PartialEq for Node {
-    ghost equals = { λ x y r. Decides r (x ≡ y) };
+    ghost eq = { node_eq };
 
-    ghost laws = { Prim.search (comparing, rules) };
+    ghost laws = { Prim.search (comparing, rules) depth 9 };
 
-    fn eq(&self, other: &Node) -> bool {
+    fn eq(&self, other: &Node) -> bool
+        ensures value { result ≡ node_eq self.now other.now }
+        ensures decides { Decides result (self.now ≡ other.now) }
+    {
         self.level == other.level && self.most == other.most && self.edges == other.edges
     }
 }
