@@ -1,6 +1,6 @@
 -- What the rule leaves on the pegs, in the words of value iteration. Assumes nothing.
 use Rattle.std.specs.Prelude.{◌≡◌, ℕ, suc, ◌<◌, ◌≤◌, cond, ◌≢◌, List, ◌∷◌, ◌++◌, map, length, Some, None, Option, slice_index_or}
-use Rattle.std.specs.List.{AllByRecursion as All}
+use Rattle.std.specs.List.{AllByRecursion}
 use Rattle.model.specs.Limits.{peg_count}
 use Rattle.model.specs.Scenes.{Shape, Scene, SceneOf, scenes, size}
 use Rattle.model.specs.Charts.{Time, Chart, at}
@@ -43,7 +43,7 @@ MovesTried =
 -- a round leaves peg 0 as it was, and on peg 1 what a round of value iteration makes of it
 abbrev pub RoundsRun : Type 0
 RoundsRun =
-    (ns : Shape) → LawfulShape ns → (slots : List (Option Move)) → All (LawfulSlot ns) slots →
+    (ns : Shape) → LawfulShape ns → (slots : List (Option Move)) → AllByRecursion (LawfulSlot ns) slots →
     (ps : Pegs) → length ps ≡ peg_count → (v : Scene → Time) → slice_index_or ps 0 None ≡ Some (tab ns v) → (r : ℕ) →
     (slice_index_or (ran ns ps (calls (round r slots))) 0 None ≡ Some (tab ns v))
     × (slice_index_or (ran ns ps (calls (round r slots))) 1 None ≡ Some (tab ns (relax (table_of slots) v)))

@@ -1,6 +1,6 @@
 -- The transition system that the moves of a rig make. Assumes nothing.
 use Rattle.std.specs.Prelude.{List, map, Some, None, Option}
-use Rattle.std.specs.List.{AllByRecursion as All}
+use Rattle.std.specs.List.{AllByRecursion}
 use Rattle.model.specs.Scenes.{Shape}
 use Rattle.model.specs.Moves.{Move, all_hold, applied, time}
 use Rattle.model.specs.Contents.{Contents}
@@ -22,7 +22,7 @@ table_of = map action_in
 
 -- moves within a shape and the limits make a lawful table
 abbrev pub MovesLawful : Type 0
-MovesLawful = (ns : Shape) (slots : List (Option Move)) → All (LawfulSlot ns) slots → LawfulTable ns (table_of slots)
+MovesLawful = (ns : Shape) (slots : List (Option Move)) → AllByRecursion (LawfulSlot ns) slots → LawfulTable ns (table_of slots)
 
 -- and so do those of lawful contents
 abbrev pub TablesLawful : Type 0

@@ -1,6 +1,6 @@
 -- What the tests of open, want and add tell of contents, as relations. Assumes nothing.
 use Rattle.std.specs.Prelude.{◌≡◌, ℕ, ◌+◌, ◌<◌, ◌≤◌, ◌≢◌, List, [], ◌∷◌, length, Some, None, Option, slice_index}
-use Rattle.std.specs.List.{AllByRecursion as All}
+use Rattle.std.specs.List.{AllByRecursion}
 use Rattle.model.specs.Limits.{most_devices, least_settings, most_settings, most_conditions, most_effects, most_surcharges, most_tests, most_tenths}
 use Rattle.model.specs.Lists.{total}
 use Rattle.model.specs.Scenes.{Shape, SceneOf}
@@ -11,8 +11,8 @@ use Rattle.model.specs.Calls.{Lawful, extra}
 pub record LawfulShape (ns : Shape) : Type 0 where
   pub some : 1 ≤ length ns
   pub few : length ns ≤ most_devices
-  pub each_some : All (λ n. least_settings ≤ n) ns
-  pub each_few : All (λ n. n ≤ most_settings) ns
+  pub each_some : AllByRecursion (λ n. least_settings ≤ n) ns
+  pub each_few : AllByRecursion (λ n. n ≤ most_settings) ns
 
 -- a device of the shape and one of its settings
 abbrev pub Within : Shape → Pair → Type 0
@@ -20,7 +20,7 @@ Within ns p = (p.device < length ns) × (p.setting < slice_index ns p.device)
 
 -- the device does not stand in the pairs
 abbrev pub Absent : ℕ → List Pair → Type 0
-Absent v = All (λ p. v ≢ p.device)
+Absent v = AllByRecursion (λ p. v ≢ p.device)
 
 -- no device stands twice
 abbrev pub Distinct : List Pair → Type 0
@@ -28,7 +28,7 @@ Distinct [] = Unit {0}
 Distinct (p ∷ ps) = Absent p.device ps × Distinct ps
 
 pub record LawfulPairs (ns : Shape) (ps : List Pair) : Type 0 where
-  pub within : All (Within ns) ps
+  pub within : AllByRecursion (Within ns) ps
   pub distinct : Distinct ps
 
 pub record LawfulSurcharge (ns : Shape) (x : Surcharge) : Type 0 where
@@ -40,7 +40,7 @@ pub record LawfulSurcharge (ns : Shape) (x : Surcharge) : Type 0 where
 pub record LawfulMove (ns : Shape) (m : Move) : Type 0 where
   pub conditioned : LawfulPairs ns m.conditions
   pub effected : LawfulPairs ns m.effects
-  pub surcharged : All (LawfulSurcharge ns) m.surcharges
+  pub surcharged : AllByRecursion (LawfulSurcharge ns) m.surcharges
   pub few_conditions : length m.conditions ≤ most_conditions
   pub some_effects : 1 ≤ length m.effects
   pub few_effects : length m.effects ≤ most_effects
@@ -56,7 +56,7 @@ pub record WellFormed (c : Contents) : Type 0 where
   pub shape : LawfulShape c.settings
   pub present : SceneOf c.settings c.scene
   pub as_many_masks : length c.masks ≡ length c.settings
-  pub each_slot : All (LawfulSlot c.settings) c.slots
+  pub each_slot : AllByRecursion (LawfulSlot c.settings) c.slots
 
 abbrev pub ContentsTold : Type 0
 ContentsTold = (c : Contents) → Lawful c → WellFormed c
