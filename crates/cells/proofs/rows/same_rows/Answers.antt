@@ -5,17 +5,17 @@ use Rattle.cells.proofs.rows.same_rows.Goals as goal
 pub returns-then-left-right : goal.returns-then-left-right
 returns-then-left-right c = record { value = sym (same_lengths c.args.left.now c.args.right.now c.if-left-right.true) }
 
-pub returns-then-not-same-time : goal.returns-then-not-same-time
-returns-then-not-same-time c =
+pub returns-then-not-same_time : goal.returns-then-not-same_time
+returns-then-not-same_time c =
     let h = c.loop-i-test.true in
     let k : c.loop-i.i < length c.args.right.now = omega arith in
-    record { value = sym (same_not c.args.left.now c.args.right.now c.loop-i.i c.loop-i.invariant h k (sym c.if-not-same-time.ensures.value)) }
+    record { value = sym (same_not c.args.left.now c.args.right.now c.loop-i.i c.loop-i.invariant h k (sym c.if-not-same_time.ensures.value)) }
 
 pub loop-i-preserved : goal.loop-i-preserved
 loop-i-preserved c =
     let h = c.loop-i-test.true in
     let k : c.loop-i.i < length c.args.right.now = omega arith in
-    same_more c.args.left.now c.args.right.now c.loop-i.i c.loop-i.invariant h k (sym c.if-not-same-time.ensures.value)
+    same_more c.args.left.now c.args.right.now c.loop-i.i c.loop-i.invariant h k (sym c.if-not-same_time.ensures.value)
 
 pub returns : goal.returns
 returns c =

@@ -5,4 +5,4 @@ pub loop-d-init : goal.loop-d-init
 loop-d-init c = runs_none _ _ _ _
 
 pub loop-d-preserved : goal.loop-d-preserved
-loop-d-preserved c = runs_more c.loop-d.d c.args.strides.stride c.args.base _ _ c.loop-d.cells _ c.loop-d.invariant c.fill-run.ensures.run
+loop-d-preserved c = runs_more c.loop-d.d c.args.strides.stride c.args.base _ _ c.loop-d.cells _ c.loop-d.invariant c.fill_run.ensures.run

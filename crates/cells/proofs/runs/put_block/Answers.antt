@@ -6,11 +6,11 @@ use Rattle.cells.proofs.runs.put_block.Goals as goal
 pub loop-x-init : goal.loop-x-init
 loop-x-init c = runs_none _ _ _ _
 
-pub overflow-add-to : goal.overflow-add-to
-overflow-add-to c = omega (arith, next_row c.loop-x.x c.args.strides.count c.args.strides.stride c.loop-x-test.true, c.requires.within.0)
+pub overflow_add-to : goal.overflow_add-to
+overflow_add-to c = omega (arith, next_row c.loop-x.x c.args.strides.count c.args.strides.stride c.loop-x-test.true, c.requires.within.0)
 
-pub copy-run-requires : goal.copy-run-requires
-copy-run-requires c =
+pub copy_run-requires : goal.copy_run-requires
+copy_run-requires c =
     record {
       within = (omega (arith, next_row c.loop-x.x c.args.strides.count c.args.strides.stride c.loop-x-test.true, c.requires.within.0), omega (arith, c.requires.within.1));
       apart = source_apart c.args.strides.count c.args.strides.stride c.args.to c.args.from c.loop-x.x c.loop-x-test.true c.requires.source;
@@ -22,4 +22,4 @@ loop-x-preserved c =
     let w = c.args.strides.stride in
     let x = c.loop-x.x in
     runs_more x w c.args.to _ _ c.loop-x.cells _ c.loop-x.invariant
-    (written_as w _ _ _ _ _ (source_kept n w c.args.to c.args.from x _ _ c.loop-x-test.true c.requires.source c.loop-x.invariant) c.copy-run.ensures.run)
+    (written_as w _ _ _ _ _ (source_kept n w c.args.to c.args.from x _ _ c.loop-x-test.true c.requires.source c.loop-x.invariant) c.copy_run.ensures.run)
