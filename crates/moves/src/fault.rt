@@ -1,5 +1,5 @@
 ghost use Rattle.std.specs.Prelude.{◌≡◌};
-ghost use Rattle.moves.specs.Faults.{number as number_of_lem};
+ghost use Rattle.moves.specs.Faults.{number as the_number};
 
 /// Why a call on a rig is sent back.
 #[derive(Clone, Copy, PartialEq, Eq, Debug)]
@@ -35,7 +35,7 @@ pub enum RigFault {
 impl RigFault {
     /// The number under which the refusal is known.
     pub fn number(&self) -> u8
-        ensures { result ≡ number_of_lem self.now }
+        ensures { result ≡ the_number self.now }
     {
         match self {
             RigFault::CountsOff => 1,

@@ -1,11 +1,11 @@
 ghost use Rattle.std.specs.Prelude.{◌≡◌, ◌^◌, ◌<◌};
-ghost use Rattle.nodes.specs.Hashes.{mixed, code as code_of_lem};
+ghost use Rattle.nodes.specs.Hashes.{mixed, code as the_code};
 
 use crate::edge::Edge;
 
 /// A number that depends on an edge's weight and child.
 fn code(e: Edge) -> u64
-    ensures value { result ≡ code_of_lem e }
+    ensures value { result ≡ the_code e }
     ensures bound { result < 2 ^ 33 }
 {
     match e.weight {

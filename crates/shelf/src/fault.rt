@@ -1,5 +1,5 @@
 ghost use Rattle.std.specs.Prelude.{◌≡◌};
-ghost use Rattle.shelf.specs.Faults.{number as number_of_lem};
+ghost use Rattle.shelf.specs.Faults.{number as the_number};
 
 /// Why a shelf refuses a call.
 #[derive(Clone, Copy, PartialEq, Eq, Debug)]
@@ -23,7 +23,7 @@ pub enum ShelfFault {
 impl ShelfFault {
     /// The number of the refusal.
     pub fn number(self) -> u8
-        ensures value { result ≡ number_of_lem self }
+        ensures value { result ≡ the_number self }
     {
         match self {
             ShelfFault::CountsOff => 1,

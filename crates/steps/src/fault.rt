@@ -1,6 +1,6 @@
 ghost use Rattle.std.specs.Prelude.{◌≡◌, Some, None};
 ghost use Rattle.steps.specs.declared.fault.PlanFault.TheVariants.{NoRoom as no_room};
-ghost use Rattle.steps.specs.Faults.{number as number_of_lem};
+ghost use Rattle.steps.specs.Faults.{number as the_number};
 
 use crate::halt::Halt;
 use crate::hanging::Hanging;
@@ -56,7 +56,7 @@ impl From<Halt> for PlanFault {
 impl PlanFault {
     /// The number of the refusal.
     pub fn number(&self) -> u8
-        ensures value { result ≡ number_of_lem self.now }
+        ensures value { result ≡ the_number self.now }
     {
         match self {
             PlanFault::ShapesDiffer => 17,

@@ -1,5 +1,5 @@
 ghost use Rattle.std.specs.Prelude.{◌≡◌};
-ghost use Rattle.flat.specs.Openings.{number as number_of_lem, Opened};
+ghost use Rattle.flat.specs.Openings.{number as the_number, Opened};
 
 use crate::store::FlatShelf;
 use lists::limits::PEGS;
@@ -17,7 +17,7 @@ pub enum OpenFault {
 impl OpenFault {
     /// The number of the refusal.
     pub fn number(self) -> u8
-        ensures value { result ≡ number_of_lem self }
+        ensures value { result ≡ the_number self }
     {
         match self {
             OpenFault::CountsOff => 1,
