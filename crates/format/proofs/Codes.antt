@@ -1,8 +1,7 @@
 -- Codes that can be told from what follows them. Assumes nothing.
-use Rattle.std.proofs.Common.{◌≡◌, ℕ, ◌+◌, ◌*◌, ◌/◌, ◌%◌, ◌<◌, ◌≤◌, List, [], ◌∷◌, ◌++◌, length, sym, refl, ap, ◌∙◌, append_assoc, arith}
+use Rattle.std.proofs.Common.{◌≡◌, ℕ, ◌/◌, ◌%◌, List, [], ◌∷◌, ◌++◌, length, sym, refl, ◌∙◌, append_assoc, arith}
 use native.Mathlib.Nat.{div-add-mod}
 use Rattle.std.specs.List.{flat_map}
-use Rattle.model.specs.Moves.{Pair}
 use Rattle.format.specs.Bytes.{two, pair, Prefix}
 
 pub two_prefix : Prefix two

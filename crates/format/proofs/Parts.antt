@@ -1,10 +1,10 @@
 -- Surcharges, moves and devices can be told from what follows them. Assumes nothing.
-use Rattle.std.proofs.Common.{◌≡◌, ℕ, ◌+◌, List, [], ◌∷◌, ◌++◌, length, sym, refl, ap, ◌∙◌, append_assoc, arith}
+use Rattle.std.proofs.Common.{◌≡◌, ℕ, List, [], ◌∷◌, ◌++◌, length, sym, refl, ap, ◌∙◌, append_assoc, arith}
 use Rattle.std.specs.List.{flat_map, AllByRecursion as All}
-use Rattle.model.specs.Moves.{Pair, Surcharge, Move}
+use Rattle.model.specs.Moves.{Move}
 use Rattle.model.specs.Contents.{Name}
 use Rattle.format.specs.Bytes.{two, pair, Prefix}
-use Rattle.format.specs.Files.{Entry, surcharge, lists, entry, devices, Eight}
+use Rattle.format.specs.Files.{surcharge, lists, entry, devices, Eight}
 use Rattle.format.proofs.Codes.{two_prefix, pair_prefix, many, cut}
 
 pub surcharge_prefix : Prefix surcharge

@@ -1,12 +1,12 @@
 -- How long the parts of a file are. Assumes nothing.
-use Rattle.std.proofs.Common.{◌≡◌, ℕ, ◌+◌, ◌*◌, ◌≤◌, List, [], ◌∷◌, ◌++◌, length, Some, None, Option, sym, refl, ap, ◌∙◌, arith, length-append}
+use Rattle.std.proofs.Common.{◌≡◌, ℕ, ◌+◌, ◌*◌, ◌≤◌, List, [], ◌∷◌, ◌++◌, length, Some, None, Option, refl, arith, length-append}
 use Rattle.std.specs.List.{flat_map, AllByRecursion as All}
 use Rattle.model.specs.Scenes.{Shape}
 use Rattle.model.specs.Moves.{Pair, Surcharge, Move}
 use Rattle.model.specs.Contents.{Name}
 use Rattle.theory.specs.Wellformed.{LawfulSurcharge, LawfulMove, LawfulSlot}
-use Rattle.format.specs.Bytes.{two, pair}
-use Rattle.format.specs.Files.{Entry, Listing, surcharge, lists, entry, devices, body, bytes, Eight, entries}
+use Rattle.format.specs.Bytes.{pair}
+use Rattle.format.specs.Files.{Entry, Listing, surcharge, lists, entry, devices, body, Eight, entries}
 
 pub pairs_long : (ps : List Pair) → length (flat_map pair ps) ≡ 2 * length ps
 pairs_long [] = refl

@@ -1,13 +1,13 @@
 -- What is taken lists what was read. Assumes nothing.
-use Rattle.std.proofs.Common.{◌≡◌, ℕ, zero, suc, ◌+◌, ◌-◌, ◌*◌, ◌<◌, ◌≤◌, Bool, true, false, cond, leb, List, [], ◌∷◌, ◌++◌, length, replicate, Some, None, Ok, Err, Option, Result, sym, refl, ap, ◌∙◌, subst, append_assoc, append-nil, arith, length-append}
+use Rattle.std.proofs.Common.{◌≡◌, ℕ, zero, suc, ◌+◌, ◌-◌, ◌*◌, Bool, true, false, cond, leb, List, [], ◌∷◌, ◌++◌, length, replicate, Some, None, Ok, Err, Option, Result, sym, refl, ap, ◌∙◌, subst, append_assoc, append-nil, arith, length-append}
 use lib.ListN.{length-replicate, replicate-append-replicate}
 use Rattle.std.proofs.lemmas.List.{length_push, set_at}
 use Rattle.std.proofs.lemmas.Bool.{leb-false}
 use Rattle.model.specs.Moves.{Move}
 use Rattle.model.specs.Contents.{Contents, with_slots, with_slot, with_masks}
 use Rattle.model.specs.Calls.{opens, opened, wants, adds}
-use Rattle.format.specs.Files.{Entry, Listing, Shaped, Rising, entry, entries, listing}
-use Rattle.format.specs.Reading.{Untaken, unless_refused, adding, taken, ListsAsTaken}
+use Rattle.format.specs.Files.{Entry, Rising, entry, entries, listing}
+use Rattle.format.specs.Reading.{Untaken, unless_refused, adding, ListsAsTaken}
 use Rattle.format.proofs.Tables.{entries_append}
 
 refused_not : {T : Type 0} {E : Type 0} (e : E) (x : T) → ◌≡◌ {A = Result T E} (Err e) (Ok x) → ⊥

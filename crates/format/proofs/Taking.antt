@@ -1,15 +1,15 @@
 -- What a rig's file lists is taken as that rig. Assumes nothing.
-use Rattle.std.proofs.Common.{◌≡◌, ℕ, ◌+◌, ◌*◌, ◌<◌, ◌≤◌, Bool, true, false, cond, leb, List, [], ◌∷◌, ◌++◌, length, get_or, replicate, is_some, Some, None, Ok, Err, Option, Result, sym, refl, ap, ◌∙◌, subst, append_assoc, arith, length-append}
+use Rattle.std.proofs.Common.{◌≡◌, ℕ, ◌+◌, ◌*◌, Bool, true, false, cond, leb, List, [], ◌∷◌, ◌++◌, length, get_or, replicate, is_some, Some, None, Ok, Err, Option, Result, sym, refl, ap, ◌∙◌, subst, append_assoc, arith, length-append}
 use Rattle.std.specs.List.{AllByRecursion as All}
 use Rattle.std.proofs.lemmas.List.{length_push, set_at}
 use Rattle.std.proofs.ByRecursion.{All-from_get_or}
 use Rattle.std.proofs.lemmas.Bool.{false≢true, lt-leb}
 use Rattle.model.specs.Moves.{Move}
-use Rattle.model.specs.Refusals.{Check, refuse, answer, passes}
-use Rattle.model.specs.Contents.{Contents, slot, with_slots, with_slot, with_masks}
-use Rattle.model.specs.Calls.{opens, opened, open_checks, wants, want_checks, adds, no_slot, in_use, move_checks, lawful_slot}
-use Rattle.format.specs.Files.{Entry, Listing, Held, entry, entries, listing}
-use Rattle.format.specs.Reading.{Untaken, unless_refused, adding, taken, TakenBack}
+use Rattle.model.specs.Refusals.{Check, answer, passes}
+use Rattle.model.specs.Contents.{Contents, with_slots, with_slot, with_masks}
+use Rattle.model.specs.Calls.{opened, open_checks, wants, want_checks, adds, move_checks, lawful_slot}
+use Rattle.format.specs.Files.{Entry, entry, entries}
+use Rattle.format.specs.Reading.{Untaken, unless_refused, adding, TakenBack}
 
 -- where no check holds, the result is answered
 passed : {T : Type 0} (cs : List Check) (x : T) → passes cs ≡ true → answer cs x ≡ Ok x

@@ -1,16 +1,14 @@
 -- Whole files: one reading, one file, and none too long. Assumes nothing.
-use Rattle.std.proofs.Common.{◌≡◌, ℕ, ◌+◌, ◌*◌, ◌≤◌, Bool, true, false, not, ◌||◌, eqb, leb, List, [], ◌∷◌, ◌++◌, length, replicate, Some, None, Option, sym, refl, ap, ◌∙◌, subst, append-nil, arith}
-use Rattle.std.specs.List.{flat_map, AllByRecursion as All}
+use Rattle.std.proofs.Common.{◌≡◌, ℕ, ◌≤◌, false, not, eqb, List, [], ◌++◌, length, replicate, None, sym, ap, ◌∙◌, append-nil, arith}
+use Rattle.std.specs.List.{flat_map}
 use Rattle.std.proofs.lemmas.Bool.{eqb-true, not-false, or_parts, ltb-false}
 use Rattle.model.specs.Limits.{outside, most_slots}
-use Rattle.model.specs.Moves.{Move}
 use Rattle.model.specs.Scenes.{shape_off}
 use Rattle.model.specs.Contents.{Contents}
 use Rattle.model.specs.Calls.{Lawful, counts_off, open_checks}
 use Rattle.model.proofs.Ranks.{scene_length}
 use Rattle.theory.proofs.Told.{no_refusal, contents_told}
-use Rattle.format.specs.Bytes.{two}
-use Rattle.format.specs.Files.{Entry, Listing, Shaped, Held, entry, devices, body, bytes, entries, placed, listing, file}
+use Rattle.format.specs.Files.{Entry, Listing, Shaped, Held, entry, body, bytes, entries, placed, listing, file}
 use Rattle.format.specs.Laws.{OneReading, OneFile, EveryFile, Prefixes}
 use Rattle.format.proofs.Codes.{two_prefix, pair_prefix, many, cut}
 use Rattle.format.proofs.Parts.{surcharge_prefix, entry_prefix, cut_devices}

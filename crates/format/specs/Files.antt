@@ -1,7 +1,7 @@
 -- The rig file: what it lists, its bytes, and the file of a rig's contents. Assumes nothing.
 use Rattle.std.specs.Prelude.{◌≡◌, ℕ, ◌+◌, ◌*◌, ◌≤◌, List, [], ◌∷◌, ◌++◌, length, Some, None, Option, slice_set}
 use Rattle.std.specs.List.{flat_map, AllByRecursion as All}
-use Rattle.model.specs.Moves.{Pair, Surcharge, Move}
+use Rattle.model.specs.Moves.{Surcharge, Move}
 use Rattle.model.specs.Contents.{Contents, Name}
 use Rattle.model.specs.Calls.{Lawful}
 use Rattle.format.specs.Bytes.{two, pair}

@@ -1,5 +1,5 @@
 -- A file has one reading, a rig one file, and every rig a file. Assumes nothing.
-use Rattle.std.specs.Prelude.{◌≡◌, ℕ, ◌<◌, ◌≤◌, List, length, replicate, None, Option}
+use Rattle.std.specs.Prelude.{◌≡◌, ◌≤◌, List, length, replicate, None, Option}
 use Rattle.model.specs.Moves.{Move}
 use Rattle.model.specs.Contents.{Contents}
 use Rattle.format.specs.Bytes.{Prefix, two, pair}
