@@ -1,19 +1,18 @@
 -- In a store an edge is known by its chart, and a node by its part. Assumes nothing.
-use Rattle.std.proofs.Common.{◌≡◌, ℕ, zero, suc, ◌+◌, ◌-◌, ◌*◌, ◌<◌, ◌≤◌, Bool, true, false, ◌⊎◌, List, [], ◌∷◌, ◌++◌, map, length, get_or, take, drop, replicate, is_some, Some, None, Option, sym, refl, ap, ◌∙◌, subst, inl, inr, arith, take-append-drop}
+use Rattle.std.proofs.Common.{◌≡◌, ℕ, ◌+◌, ◌*◌, ◌<◌, true, false, List, [], ◌∷◌, ◌++◌, length, take, drop, is_some, Some, None, Option, sym, refl, ap, ◌∙◌, subst, inl, inr, arith, take-append-drop}
 use lib.ListN.{length-map}
 use Rattle.std.specs.List.{AllByRecursion as All, flat_map}
 use Rattle.std.proofs.lemmas.Bool.{both_ways, cases_lt}
 use Rattle.std.proofs.lemmas.List.{take_at, drop_at, drop-drop, get_or_past}
-use Rattle.table.specs.Tables.{slot, Apart, Kept}
+use Rattle.table.specs.Tables.{slot}
 use Rattle.nodes.specs.declared.edge.Edge.{Edge}
 use Rattle.nodes.specs.declared.node.Node.{Node}
 use Rattle.model.specs.Charts.{Time, Chart, plus, lesser, greatest}
-use Rattle.model.specs.Lists.{In}
 use Rattle.model.specs.Parts.{least, lowered}
 use Rattle.model.specs.Scenes.{Shape, size}
-use Rattle.parts.specs.Shifts.{later, zeroed}
+use Rattle.parts.specs.Shifts.{zeroed}
 use Rattle.parts.proofs.Pieces.{all_map, length_each, least_later, least_append, lesser_none, lowered_back}
-use Rattle.store.specs.Stores.{none_edge, node_in, node_at, lowest, chart, below, highest, Leads, Fine, Formed, Proper, Store}
+use Rattle.store.specs.Stores.{node_in, node_at, lowest, chart, below, highest, Leads, Fine, Formed, Proper, Store}
 use Rattle.store.specs.Fillings.{Canonical}
 use Rattle.store.proofs.Greatest.{greater_none, plus_zero, greatest_later, highest_joined}
 

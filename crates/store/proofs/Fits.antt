@@ -1,16 +1,15 @@
 -- The parts of the charts of edges, and the slots of a store. Assumes nothing.
-use Rattle.std.proofs.Common.{◌≡◌, ℕ, ◌+◌, ◌<◌, ◌≤◌, Bool, true, false, ◌⊎◌, List, [], ◌∷◌, ◌++◌, map, length, take, drop, is_some, Some, None, Option, sym, refl, ap, ◌∙◌, subst, inl, inr}
+use Rattle.std.proofs.Common.{◌≡◌, ℕ, ◌+◌, ◌<◌, List, [], ◌∷◌, map, length, take, drop, is_some, Some, Option, sym, refl, ap, ◌∙◌, subst, inl, inr}
 use Rattle.std.specs.List.{AllByRecursion as All, flat_map}
-use Rattle.table.specs.Tables.{slot, Apart, Kept}
+use Rattle.table.specs.Tables.{slot}
 use Rattle.nodes.specs.declared.edge.Edge.{Edge}
 use Rattle.nodes.specs.declared.node.Node.{Node}
-use Rattle.model.specs.Charts.{Chart}
 use Rattle.model.specs.Lists.{In}
 use Rattle.model.specs.Parts.{Part, parts, same_part}
 use Rattle.model.specs.Scenes.{Shape}
 use Rattle.parts.proofs.Pieces.{all_in, parts_each, in_each, each_in, each_map}
 use Rattle.parts.proofs.Counts.{in_cast, part_lawful, room, no_room}
-use Rattle.store.specs.Stores.{node_in, node_at, chart, body, Leads, Fine, Formed, Proper, Store}
+use Rattle.store.specs.Stores.{node_in, node_at, chart, body, Leads, Fine, Proper, Store}
 use Rattle.store.specs.Fillings.{name_of, name, Roomy, Overfull}
 use Rattle.store.proofs.Canon.{tail_of, some_at, led, kids_of, knows_kids, kids_long, body_low, node_known, slot_within}
 use Rattle.store.proofs.Grows.{name_kept}

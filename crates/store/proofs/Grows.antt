@@ -1,14 +1,14 @@
 -- A store that only grows. Assumes nothing.
-use Rattle.std.proofs.Common.{◌≡◌, ℕ, ◌+◌, Bool, true, false, List, [], ◌∷◌, ◌++◌, length, take, drop, is_some, Some, None, Option, sym, refl, ap, ◌∙◌, subst}
+use Rattle.std.proofs.Common.{◌≡◌, ℕ, ◌+◌, true, List, [], ◌∷◌, ◌++◌, take, drop, is_some, Some, Option, sym, refl, ap, ◌∙◌}
 use Rattle.std.specs.List.{AllByRecursion as All, flat_map}
 use Rattle.table.specs.Tables.{slot, Kept}
 use Rattle.nodes.specs.declared.edge.Edge.{Edge}
 use Rattle.nodes.specs.declared.node.Node.{Node}
-use Rattle.model.specs.Charts.{Chart, plus, greater}
+use Rattle.model.specs.Charts.{plus, greater}
 use Rattle.model.specs.Scenes.{Shape}
 use Rattle.parts.specs.Shifts.{later}
 use Rattle.parts.proofs.Pieces.{all_map}
-use Rattle.store.specs.Stores.{node_in, node_at, lowest, chart, body, below, highest, Leads, Fine, Formed, Proper, Store}
+use Rattle.store.specs.Stores.{node_in, node_at, lowest, chart, body, below, highest, Fine, Formed, Proper, Store}
 use Rattle.store.specs.Fillings.{name_of, name}
 use Rattle.store.proofs.Canon.{tail_of, some_at, formed_at, kids_of}
 

@@ -1,5 +1,5 @@
 -- The parts that the nodes of a store stand for, and when there is no room. Assumes nothing.
-use Rattle.std.specs.Prelude.{◌≡◌, ℕ, ◌<◌, ◌≤◌, ◌⊎◌, List, ◌∷◌, map, length, drop, Some, Option, ◌≢◌}
+use Rattle.std.specs.Prelude.{◌≡◌, ℕ, ◌<◌, ◌≤◌, ◌⊎◌, List, map, length, drop, Some, Option, ◌≢◌}
 use Rattle.std.specs.List.{AllByRecursion as All, flat_map}
 use Rattle.table.specs.Tables.{slot, Kept, Occupied}
 use Rattle.nodes.specs.declared.edge.Edge.{Edge}
