@@ -2,11 +2,11 @@
 use Rattle.std.proofs.Common.{◌≡◌, ℕ, ◌+◌, ◌*◌, ◌<◌, ◌≤◌, Bool, true, false, List, [], ◌∷◌, ◌++◌, length, sym, refl, ap, ◌∙◌, append_assoc, arith, length-append}
 use Rattle.std.specs.List.{flat_map}
 use Rattle.std.proofs.lemmas.List.{flat_map_more}
-use Rattle.model.specs.Moves.{Pair, Surcharge, Move}
+use Rattle.model.specs.Moves.{Surcharge, Move}
 use Rattle.format.specs.Bytes.{two, pair, Prefix}
 use Rattle.format.specs.Files.{Entry, surcharge, lists, entry, Rising}
-use Rattle.format.proofs.Codes.{two_prefix, pair_prefix, many, cut}
-use Rattle.format.proofs.Parts.{surcharge_prefix, lists_then, entry_prefix}
+use Rattle.format.proofs.Codes.{two_prefix, cut}
+use Rattle.format.proofs.Parts.{lists_then, entry_prefix}
 use Rattle.format.proofs.Sizes.{pairs_long}
 use Rattle.framing.specs.declared.heads.Toll.{Toll}
 use Rattle.framing.specs.declared.heads.Head.{Head}

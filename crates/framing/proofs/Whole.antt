@@ -1,11 +1,10 @@
 -- Whole files. Assumes nothing.
-use Rattle.std.proofs.Common.{◌≡◌, ℕ, ◌+◌, ◌*◌, ◌<◌, ◌≤◌, Bool, true, false, eqb, List, [], ◌∷◌, ◌++◌, length, take, drop, MatchBool, sym, refl, ap, ◌∙◌, append_assoc, append-nil, arith, length-append, take-append-drop}
-use Rattle.std.specs.List.{flat_map, AllByRecursion as All}
+use Rattle.std.proofs.Common.{◌≡◌, ℕ, ◌+◌, ◌*◌, ◌<◌, Bool, true, false, eqb, List, [], ◌∷◌, ◌++◌, length, take, drop, MatchBool, sym, refl, ap, ◌∙◌, append_assoc, append-nil, arith, length-append, take-append-drop}
+use Rattle.std.specs.List.{flat_map}
 use Rattle.std.proofs.lemmas.List.{length-take-le, length-drop, nil_from_length}
 use Rattle.std.proofs.lemmas.Bool.{eqb-true, eqb-false}
-use Rattle.model.specs.Contents.{Name}
 use Rattle.format.specs.Bytes.{two}
-use Rattle.format.specs.Files.{Entry, Listing, Shaped, Eight, Rising, entry, devices, body, header, bytes}
+use Rattle.format.specs.Files.{Entry, Listing, entry, devices, body, header, bytes}
 use Rattle.format.proofs.Codes.{two_prefix, many, cut}
 use Rattle.format.proofs.Parts.{entry_prefix}
 use Rattle.format.proofs.Sizes.{body_long, devices_long}

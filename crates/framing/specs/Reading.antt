@@ -1,5 +1,5 @@
 -- Items taken off the front of bytes. Assumes nothing.
-use Rattle.std.specs.Prelude.{◌≡◌, ℕ, ◌+◌, ◌<◌, ◌≤◌, Bool, true, false, List, [], ◌∷◌, ◌++◌, length, Some, None, Option, ◌≢◌}
+use Rattle.std.specs.Prelude.{◌≡◌, ℕ, ◌+◌, ◌<◌, Bool, true, false, List, [], ◌∷◌, ◌++◌, length, Some, None, Option, ◌≢◌}
 use Rattle.format.specs.Bytes.{two}
 use Rattle.format.specs.Files.{Entry, entry, Rising}
 use Rattle.framing.specs.declared.heads.Toll.{Toll}

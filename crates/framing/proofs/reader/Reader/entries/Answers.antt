@@ -1,4 +1,4 @@
-use Rattle.std.proofs.Common.{◌≡◌, ℕ, ◌+◌, List, [], ◌∷◌, ◌++◌, sym, refl, ap, ◌∙◌, arith}
+use Rattle.std.proofs.Common.{ℕ, ◌+◌, List, [], ◌∷◌, ◌++◌, sym, refl, ap, ◌∙◌, arith}
 use Rattle.std.specs.List.{flat_map}
 use Rattle.std.proofs.lemmas.List.{length_push}
 use Rattle.format.specs.Files.{entry}
@@ -9,9 +9,9 @@ use Rattle.framing.proofs.reader.Reader.entries.Goals as goal
 pub loop-init : goal.loop-init
 loop-init c = ([], refl, refl, tt, refl)
 
-pub returns-in-default : goal.returns-in-default
-returns-in-default c = λ xs t n e.
-    stuck entry entry_prefix c.loop.invariant.0 xs c.loop.self.rest.now t (omega (arith, c.loop.invariant.1, n.0, c.loop-test.true)) (sym c.loop.invariant.2 ∙ e) c.in-default.ensures
+pub returns-in_default : goal.returns-in_default
+returns-in_default c = λ xs t n e.
+    stuck entry entry_prefix c.loop.invariant.0 xs c.loop.self.rest.now t (omega (arith, c.loop.invariant.1, n.0, c.loop-test.true)) (sym c.loop.invariant.2 ∙ e) c.in_default.ensures
 
 pub returns-then-from-next : goal.returns-then-from-next
 returns-then-from-next c = λ xs t n e.

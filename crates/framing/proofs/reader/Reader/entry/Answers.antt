@@ -1,8 +1,8 @@
 use Rattle.framing.proofs.Moves.{no_head, short_conditions, short_effects, short_surcharges, whole_entry}
 use Rattle.framing.proofs.reader.Reader.entry.Goals as goal
 
-pub returns-in-default : goal.returns-in-default
-returns-in-default c = no_head c.args.self.now.rest.now c.in-default.ensures
+pub returns-in_default : goal.returns-in_default
+returns-in_default c = no_head c.args.self.now.rest.now c.in_default.ensures
 
 pub returns-then-not-skip : goal.returns-then-not-skip
 returns-then-not-skip c = short_conditions c.in-Some.head c.args.self.now.rest.now c.head.new.self.rest.now c.in-Some.ensures c.if-not-skip.ensures
