@@ -12,7 +12,7 @@ use Rattle.build.proofs.make.make.Goals as goal
 pub highest-most-requires : goal.highest-most-requires
 highest-most-requires c = record {
   depth = omega (arith, c.requires.depth);
-  timely = made_timely c.args.nodes.now c.args.settings.now c.args.level c.args.kids c.requires.ready c.requires.depth c.requires.kids c.requires.timely c.least-low.result c.lower-all-edges.result c.least-low.ensures c.lower-all-edges.ensures;
+  timely = made_timely c.args.nodes.now c.args.settings.now c.args.level c.args.kids c.requires.ready c.requires.depth c.requires.kids c.requires.timely c.least-low.result c.lower_all-edges.result c.least-low.ensures c.lower_all-edges.ensures;
 }
 
 pub returns-in-Some : goal.returns-in-Some
@@ -22,7 +22,7 @@ returns-in-Some c =
     let shape = c.args.settings.now in
     let l = c.args.level in
     let kids = c.args.kids in
-    let w = wanted_is old new shape l kids c.requires.ready c.requires.depth c.requires.kids c.least-low.result c.lower-all-edges.result c.highest-most.result c.least-low.ensures c.lower-all-edges.ensures c.highest-most.ensures in
+    let w = wanted_is old new shape l kids c.requires.ready c.requires.depth c.requires.kids c.least-low.result c.lower_all-edges.result c.highest-most.result c.least-low.ensures c.lower_all-edges.ensures c.highest-most.ensures in
     let got = c.in-Some.ensures in
     let held = got.interned.0 in
     let here : slot new c.in-Some.i ≡ Some (wanted old (drop (l + 1) shape) l kids) = held.here ∙ ap {B = Option Node} Some (held.like ∙ w) in
@@ -39,7 +39,7 @@ returns-in-None c =
     let shape = c.args.settings.now in
     let l = c.args.level in
     let kids = c.args.kids in
-    let w = wanted_is old new shape l kids c.requires.ready c.requires.depth c.requires.kids c.least-low.result c.lower-all-edges.result c.highest-most.result c.least-low.ensures c.lower-all-edges.ensures c.highest-most.ensures in
+    let w = wanted_is old new shape l kids c.requires.ready c.requires.depth c.requires.kids c.least-low.result c.lower_all-edges.result c.highest-most.result c.least-low.ensures c.lower_all-edges.ensures c.highest-most.ensures in
     let got = c.in-None.ensures in
     let still = got.interned.0 in
     let full = make_full old shape l kids c.requires.ready c.requires.depth c.requires.kids (subst (Crowded (λ (x y : Node). x ≡ y) old) w got.interned.1) in

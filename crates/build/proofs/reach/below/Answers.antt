@@ -12,5 +12,5 @@ returns-then-level-settings c =
 pub returns-else-level-settings : goal.returns-else-level-settings
 returns-else-level-settings c =
     let lt : c.args.level < length c.args.settings.now = omega (arith, c.if-level-settings.false) in
-    ap (λ (x : Node). x.most) c.node-at.ensures
+    ap (λ (x : Node). x.most) c.node_at.ensures
     ∙ sym (ap (λ (t : Shape). below c.args.nodes.now t c.args.e) (drop_more c.args.settings.now c.args.level 0 lt))
