@@ -1,9 +1,9 @@
 -- Add and retime, by what was said of the slot and of what was handed in. Assumes nothing.
-use Rattle.std.proofs.Common.{◌≡◌, ℕ, true, List, map, Some, None, Ok, Err, Option, Result, sym, refl, ap, ◌∙◌, subst}
+use Rattle.std.proofs.Common.{◌≡◌, ℕ, true, List, map, Some, None, Ok, Option, Result, sym, ap, ◌∙◌, subst}
 use Rattle.model.specs.Scenes.{Shape}
 use Rattle.model.specs.Moves as model
 use Rattle.model.specs.Refusals.{answer, passes}
-use Rattle.model.specs.Contents.{Contents, slot}
+use Rattle.model.specs.Contents.{Contents}
 use Rattle.model.specs.Calls.{adds, retimes, move_checks, timing_checks, retiming, in_slot, lawful_slot}
 use Rattle.theory.proofs.Keeping.{accepted_passes, retimed_slot}
 use Rattle.moves.specs.declared.entry.Move.{Move}

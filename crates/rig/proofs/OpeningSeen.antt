@@ -1,5 +1,5 @@
 -- The masks, the slots and the contents of an opening. Assumes nothing.
-use Rattle.std.proofs.Common.{◌≡◌, ℕ, zero, suc, ◌+◌, ◌<◌, ◌≤◌, Bool, true, false, ◌||◌, ltb, List, [], ◌∷◌, ◌++◌, map, length, get_or, take, drop, set, replicate, Some, None, Ok, vec_items, vec_len, Option, Vec, sym, refl, ap, ◌∙◌, subst, append_assoc, arith}
+use Rattle.std.proofs.Common.{◌≡◌, ℕ, zero, suc, ◌+◌, ◌<◌, ◌≤◌, false, ltb, List, [], ◌∷◌, ◌++◌, map, length, get_or, take, drop, set, replicate, None, Ok, vec_items, vec_len, Option, Vec, sym, refl, ap, ◌∙◌, subst, append_assoc, arith}
 use Rattle.std.specs.Vec.{with_items}
 use Rattle.std.specs.declared.alloc.Global.{Global}
 use Rattle.std.proofs.lemmas.List.{drop_more, take_more, set_at, length-take-le, length-map, map-append, with_items_is, take_all, append-nil, at_drop_all}
@@ -9,7 +9,6 @@ use Rattle.model.specs.Limits.{outside, least_settings, most_settings, most_devi
 use Rattle.model.specs.Lists.{some}
 use Rattle.model.specs.Scenes.{Shape, Scene, shape_off}
 use Rattle.model.specs.Moves as model
-use Rattle.model.specs.Masks.{all_of}
 use Rattle.model.specs.Contents.{Contents, Name}
 use Rattle.model.specs.Calls.{Lawful, opens, opened}
 use Rattle.model.proofs.Testing.{none_at}

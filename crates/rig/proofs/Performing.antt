@@ -1,11 +1,10 @@
 -- Perform, by what the slot holds and whether its conditions hold. Assumes nothing.
-use Rattle.std.proofs.Common.{◌≡◌, ℕ, Bool, true, false, cond, not, List, [], ◌∷◌, map, Some, None, Ok, Err, Option, Result, sym, refl, ap, ◌∙◌, subst}
+use Rattle.std.proofs.Common.{◌≡◌, ℕ, Bool, true, false, cond, not, List, [], ◌∷◌, map, Ok, Err, Option, Result, sym, ap, ◌∙◌, subst}
 use Rattle.model.specs.Scenes.{Scene}
 use Rattle.model.specs.Moves as model
 use Rattle.model.specs.Moves.{all_hold, applied, time}
-use Rattle.model.specs.Contents.{Contents, slot, with_scene}
+use Rattle.model.specs.Contents.{Contents, with_scene}
 use Rattle.model.specs.Calls.{unmet, in_slot, performs, performed, Lawful}
-use Rattle.theory.specs.Performing.{Performed}
 use Rattle.theory.proofs.Performing.{answers_by_move, leaves_by_move, performed_keeps}
 use Rattle.moves.specs.declared.entry.Move.{Move}
 use Rattle.moves.specs.declared.pair.Pair.{Pair}

@@ -1,9 +1,9 @@
 -- The slots of a table as the definitions see them. Assumes nothing.
-use Rattle.std.proofs.Common.{◌≡◌, ℕ, zero, suc, ◌<◌, ◌≤◌, Bool, true, false, cond, not, leb, List, [], ◌∷◌, map, length, get_or, set, is_some, Some, None, Ok, Err, Option, Result, sym, refl, ap, ◌∙◌, subst, arith}
-use Rattle.std.proofs.lemmas.List.{length-map, map_set}
+use Rattle.std.proofs.Common.{◌≡◌, ℕ, zero, suc, ◌<◌, Bool, true, false, cond, not, leb, List, [], ◌∷◌, map, length, get_or, is_some, Some, None, Ok, Err, Option, Result, sym, refl, ap, ◌∙◌, arith}
+use Rattle.std.proofs.lemmas.List.{length-map}
 use Rattle.std.proofs.lemmas.Bool.{leb-false}
 use Rattle.model.specs.Moves as model
-use Rattle.model.specs.Refusals.{Check, refuse, answer}
+use Rattle.model.specs.Refusals.{Check, answer}
 use Rattle.model.specs.Contents.{Contents, slot}
 use Rattle.model.specs.Calls.{no_slot, vacant, in_use}
 use Rattle.moves.specs.declared.entry.Move.{Move}

@@ -11,13 +11,13 @@ step ms s i b lm ls e =
     ∙ ap (λ (t : List ℕ). wanted (get_or ms i 0 ∷ drop (i + 1) ms) t) (drop_more s i 0 ls)
     ∙ ap (λ (t : Bool). t && wanted (drop (i + 1) ms) (drop (i + 1) s)) (sym e)
 
-pub returns-then-not-is-admitted : goal.returns-then-not-is-admitted
-returns-then-not-is-admitted c =
-    sym (step c.args.masks.now c.args.scene.now c.loop-i.i false (omega arith) (omega arith) c.if-not-is-admitted.ensures) ∙ c.loop-i.invariant
+pub returns-then-not-is_admitted : goal.returns-then-not-is_admitted
+returns-then-not-is_admitted c =
+    sym (step c.args.masks.now c.args.scene.now c.loop-i.i false (omega arith) (omega arith) c.if-not-is_admitted.ensures) ∙ c.loop-i.invariant
 
 pub loop-i-preserved : goal.loop-i-preserved
 loop-i-preserved c =
-    sym (step c.args.masks.now c.args.scene.now c.loop-i.i true (omega arith) (omega arith) c.if-not-is-admitted.ensures) ∙ c.loop-i.invariant
+    sym (step c.args.masks.now c.args.scene.now c.loop-i.i true (omega arith) (omega arith) c.if-not-is_admitted.ensures) ∙ c.loop-i.invariant
 
 pub returns : goal.returns
 returns c =

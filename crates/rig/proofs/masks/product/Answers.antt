@@ -1,4 +1,4 @@
-use Rattle.std.proofs.Common.{◌≡◌, ℕ, ◌+◌, ◌*◌, ◌^◌, ◌<◌, ◌≤◌, length, get_or, drop, sym, ap, ◌∙◌, mul_assoc, mul-le-mul, pow-suc, mul-one, add-one, arith, lit<}
+use Rattle.std.proofs.Common.{ℕ, ◌+◌, ◌*◌, ◌^◌, ◌<◌, ◌≤◌, get_or, drop, sym, ap, ◌∙◌, mul_assoc, mul-le-mul, pow-suc, mul-one, add-one, arith, lit<}
 use native.Mathlib.Nat.{pow-le-pow_right}
 use lib.Count.{ones, ones-le}
 use Rattle.std.proofs.lemmas.List.{at_drop_more, at_drop_all}
@@ -12,12 +12,12 @@ bound t i o h k = rw (add-one, pow-suc) (mul-le-mul h k)
 -- the product so far times a mask's ones
 next : (c : goal.After-from-product) → c.loop-mask.product * c.from-product.result ≤ 8 ^ (c.loop-mask.mask-index + 1)
 next c =
-    let byte : get_or c.args.masks.now c.loop-mask.mask-index 0 < 2 ^ 8 = omega (arith, c.type-inv.masks c.loop-mask.mask-index) in
+    let byte : get_or c.args.masks.now c.loop-mask.mask-index 0 < 2 ^ 8 = omega (arith, c.type_inv.masks c.loop-mask.mask-index) in
     let few : c.from-product.result ≤ 8 = omega (arith, ones-le 8 (get_or c.args.masks.now c.loop-mask.mask-index 0) byte) in
     bound _ _ _ c.loop-mask.invariant.1 few
 
-pub overflow-mul-product : goal.overflow-mul-product
-overflow-mul-product c =
+pub overflow_mul-product : goal.overflow_mul-product
+overflow_mul-product c =
     let short : c.loop-mask.mask-index + 1 ≤ 12 = omega arith in
     omega (arith, next c, pow-le-pow_right {n = 8} (lit< tt) short)
 

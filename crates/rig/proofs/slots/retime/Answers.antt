@@ -6,11 +6,11 @@ use Rattle.moves.specs.declared.entry.Move.{Move}
 use Rattle.moves.specs.Views.{surcharge_of, slot_of}
 use Rattle.rig.proofs.slots.retime.Goals as goal
 
-pub returns-in-default : goal.returns-in-default
-returns-in-default c =
+pub returns-in_default : goal.returns-in_default
+returns-in_default c =
     let slots = c.args.slots.now in
     let n = c.args.number in
-    let none : get_or slots n None ≡ None = sym (get_or_read slots n c.index-slots-number.result c.requires c.index-slots-number.is None) ∙ c.in-default.is in
+    let none : get_or slots n None ≡ None = sym (get_or_read slots n c.index-slots-number.result c.requires c.index-slots-number.is None) ∙ c.in_default.is in
     record {
       slot = None;
       put = sym (set-get_or slots n None) ∙ ap (set slots n) none;
