@@ -1,7 +1,7 @@
 -- The steps of a dial, over plain values. Assumes nothing.
-use Rattle.std.proofs.Common.{◌≡◌, ℕ, zero, suc, ◌+◌, ◌-◌, ◌*◌, ◌<◌, ◌≤◌, Bool, true, false, ◌||◌, List, [], ◌∷◌, map, length, get_or, take, drop, set, Some, None, Option, sym, refl, ap, ◌∙◌, subst, inl, inr, arith}
+use Rattle.std.proofs.Common.{◌≡◌, ℕ, zero, suc, ◌+◌, ◌-◌, ◌*◌, ◌<◌, ◌≤◌, Bool, false, ◌||◌, List, [], ◌∷◌, map, length, get_or, take, drop, set, None, Option, sym, refl, ap, ◌∙◌, subst, inl, inr, arith}
 use Rattle.std.specs.List.{range_with_len, flat_map}
-use Rattle.std.proofs.lemmas.List.{drop_more, drop_all, get_or-take, get_or-drop, length-take-le, get_or_past}
+use Rattle.std.proofs.lemmas.List.{drop_more, drop_all, get_or-take, get_or-drop, get_or_past}
 use Rattle.std.proofs.lemmas.Bool.{cases_lt}
 use Rattle.nodes.specs.declared.edge.Edge.{Edge}
 use Rattle.nodes.specs.declared.node.Node.{Node}
@@ -14,9 +14,9 @@ use Rattle.model.proofs.Testing.{none_at}
 use Rattle.parts.proofs.Tabulated.{tabulated_split, dialled_here, dialled_below}
 use Rattle.store.specs.Stores.{chart, Fine}
 use Rattle.store.specs.Fillings.{Stuck}
-use Rattle.build.specs.Builds.{Ready, Kids, Grows, Built, Stands, Partway, together, piece, spread_chart}
-use Rattle.build.proofs.Steps.{grows_none, grows_then, ready_after, partway_grows, partway_stuck, partway_more, partway_kids, partway_all}
-use Rattle.build.proofs.Spreads.{piece_at, made_long, some_joined}
+use Rattle.build.specs.Builds.{Ready, Kids, Grows, Stands, Partway, together, piece, spread_chart}
+use Rattle.build.proofs.Steps.{grows_then, ready_after, partway_grows, partway_stuck, partway_more, partway_kids, partway_all}
+use Rattle.build.proofs.Spreads.{piece_at, made_long}
 use Rattle.dials.specs.Flats.{flat}
 
 -- Charts with one entry

@@ -1,5 +1,5 @@
-use Rattle.std.proofs.Common.{◌≡◌, ℕ, ◌+◌, ◌-◌, ◌<◌, ◌≤◌, List, length, get_or, drop, Some, None, Option, sym, refl, ap, ◌∙◌, subst, arith, rules}
-use Rattle.model.specs.Charts.{Chart, late, dialled}
+use Rattle.std.proofs.Common.{◌+◌, ◌<◌, length, drop, ap, ◌∙◌, subst, rules}
+use Rattle.model.specs.Charts.{Chart, late}
 use Rattle.model.specs.Lists.{some}
 use Rattle.store.specs.Fillings.{Stuck}
 use Rattle.build.specs.Builds.{Grows, Built}

@@ -1,11 +1,10 @@
-use Rattle.std.proofs.Common.{◌≡◌, ℕ, ◌+◌, ◌-◌, ◌<◌, ◌≤◌, List, length, get_or, drop, Some, None, Option, sym, refl, ap, ◌∙◌, subst, arith, rules}
+use Rattle.std.proofs.Common.{◌+◌, ◌-◌, ◌<◌, length, drop, ap, ◌∙◌, subst, arith}
 use Rattle.model.specs.Charts.{Chart, late, dialled}
 use Rattle.model.specs.Lists.{some}
 use Rattle.store.specs.Fillings.{Stuck}
 use Rattle.build.specs.Builds.{Grows, Built}
-use Rattle.build.proofs.Steps.{grows_none, ready_after}
+use Rattle.build.proofs.Steps.{ready_after}
 use Rattle.build.proofs.Spreads.{spread_none, spread_early, spread_grows, spread_built}
-use Rattle.dials.specs.Flats.{flat}
 use Rattle.dials.proofs.Turns.{dial_long, dial_spread, dial_timely}
 use Rattle.dials.proofs.+dial.Goals as goal
 

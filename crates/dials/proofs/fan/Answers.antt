@@ -1,11 +1,7 @@
-use Rattle.std.proofs.Common.{◌≡◌, ℕ, ◌+◌, ◌-◌, ◌<◌, ◌≤◌, List, length, get_or, drop, Some, None, Option, sym, refl, ap, ◌∙◌, subst, arith, rules}
+use Rattle.std.proofs.Common.{◌≡◌, ◌-◌, get_or, drop, ap, ◌∙◌, subst, arith}
 use Rattle.model.specs.Charts.{Chart, late, dialled}
 use Rattle.model.specs.Lists.{some}
-use Rattle.store.specs.Fillings.{Stuck}
-use Rattle.build.specs.Builds.{Grows, Built}
-use Rattle.build.proofs.Steps.{grows_none, ready_after}
-use Rattle.build.proofs.Spreads.{spread_none, spread_early, spread_grows, spread_built}
-use Rattle.dials.specs.Flats.{flat}
+use Rattle.build.specs.Builds.{Built}
 use Rattle.dials.proofs.Turns.{entry_timely, fan_ready, fan_grows, fan_stuck, fan_more, fan_kids, fan_together, fan_made, dial_timely}
 use Rattle.dials.proofs.fan.Goals as goal
 
