@@ -1,14 +1,14 @@
 -- What making a node leaves. Assumes nothing.
-use Rattle.std.proofs.Common.{◌≡◌, ℕ, ◌+◌, ◌-◌, ◌*◌, ◌<◌, ◌≤◌, false, ◌⊎◌, List, [], ◌∷◌, ◌++◌, map, length, get_or, take, drop, Some, None, Option, sym, refl, ap, ◌∙◌, subst, inl, inr}
+use Rattle.std.proofs.Common.{◌≡◌, ℕ, ◌+◌, ◌<◌, false, ◌⊎◌, List, map, length, get_or, drop, Some, Option, sym, ap, ◌∙◌, subst, inl, inr}
 use Rattle.std.proofs.lemmas.List.{drop_more}
 use Rattle.table.specs.Tables.{slot, Kept}
 use Rattle.table.specs.Finds.{Crowded, Placed}
 use Rattle.nodes.specs.declared.edge.Edge.{Edge}
 use Rattle.nodes.specs.declared.node.Node.{Node}
-use Rattle.model.specs.Charts.{Time, Chart, late}
+use Rattle.model.specs.Charts.{Time, late}
 use Rattle.model.specs.Lists.{some}
 use Rattle.model.specs.Scenes.{Shape}
-use Rattle.store.specs.Stores.{lowest, highest, chart, Fine, Proper, Store}
+use Rattle.store.specs.Stores.{lowest, highest, chart, Fine, Proper}
 use Rattle.store.specs.Fillings.{Stuck}
 use Rattle.build.specs.Builds.{lower_by, wanted, NodeTable, Ready, Kids, Grows, together}
 use Rattle.build.proofs.Makes.{make_stuck, store_more, grown_more, made_fine, made_chart, made_part, wanted_formed, wanted_timely}

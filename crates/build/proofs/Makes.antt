@@ -1,11 +1,11 @@
 -- The node that is made of some kids. Assumes nothing.
-use Rattle.std.proofs.Common.{◌≡◌, ℕ, zero, suc, ◌+◌, ◌-◌, ◌*◌, ◌<◌, ◌≤◌, min, Bool, true, false, ltb, ◌⊎◌, List, [], ◌∷◌, ◌++◌, map, length, get_or, take, drop, replicate, is_some, Some, None, Option, sym, refl, ap, ◌∙◌, subst, inl, inr, arith, take-append-drop}
+use Rattle.std.proofs.Common.{◌≡◌, ℕ, zero, suc, ◌+◌, ◌-◌, ◌<◌, ◌≤◌, min, true, false, ◌⊎◌, List, [], ◌∷◌, ◌++◌, map, length, take, drop, replicate, is_some, Some, None, Option, sym, refl, ap, ◌∙◌, subst, inl, inr, arith, take-append-drop}
 use lib.ListN.{length-map}
 use lib.LanesLaws.{map-replicate}
 use Rattle.std.specs.List.{AllByRecursion as All, flat_map}
 use Rattle.std.proofs.lemmas.Bool.{both_ways, cases_eq, ltb-false, le-ltb}
 use Rattle.std.proofs.lemmas.List.{take-map, drop-map, length-take-le}
-use Rattle.table.specs.Tables.{slot, Apart, Kept, Absent}
+use Rattle.table.specs.Tables.{slot, Apart, Kept}
 use Rattle.table.specs.Finds.{Crowded}
 use Rattle.nodes.specs.declared.edge.Edge.{Edge}
 use Rattle.nodes.specs.declared.node.Node.{Node}
@@ -13,11 +13,11 @@ use Rattle.model.specs.Charts.{Time, Chart, plus, lesser, greater, greatest, lat
 use Rattle.model.specs.Limits.{greatest_time}
 use Rattle.model.specs.Lists.{In, some}
 use Rattle.model.specs.Parts.{Part, parts}
-use Rattle.model.specs.Scenes.{Shape, size}
+use Rattle.model.specs.Scenes.{Shape}
 use Rattle.model.proofs.Lateness.{late_tells}
 use Rattle.parts.specs.Shifts.{later, zeroed}
 use Rattle.parts.proofs.Pieces.{parts_each}
-use Rattle.store.specs.Stores.{none_edge, node_in, node_at, lowest, below, highest, chart, body, Leads, Fine, Formed, Proper, Store}
+use Rattle.store.specs.Stores.{none_edge, node_in, lowest, below, highest, chart, Leads, Fine, Formed, Proper, Store}
 use Rattle.store.specs.Fillings.{name_of, name, Grown, Stuck}
 use Rattle.store.proofs.Canon.{formed_at, knows_kids, kids_long, body_low, body_high, node_known}
 use Rattle.store.proofs.Greatest.{greatest_later}

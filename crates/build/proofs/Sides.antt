@@ -1,5 +1,5 @@
 -- An edge with a time, its node and its kids, and edges that are raised. Assumes nothing.
-use Rattle.std.proofs.Common.{◌≡◌, ℕ, zero, suc, ◌+◌, ◌-◌, ◌*◌, ◌<◌, ◌≤◌, min, Bool, true, false, ◌||◌, ltb, ◌⊎◌, List, [], ◌∷◌, ◌++◌, map, length, get_or, take, drop, Some, None, Option, sym, refl, ap, ◌∙◌, subst, inl, inr, arith}
+use Rattle.std.proofs.Common.{◌≡◌, ℕ, zero, suc, ◌+◌, ◌*◌, ◌<◌, ◌≤◌, Bool, true, false, ◌||◌, ◌⊎◌, List, [], ◌∷◌, length, get_or, take, drop, Some, None, Option, sym, refl, ap, ◌∙◌, subst, inl, inr, arith}
 use lib.ListN.{length-map}
 use Rattle.std.specs.List.{AllByRecursion as All, flat_map}
 use Rattle.std.proofs.lemmas.Bool.{ltb-false, le-ltb, both_ways, cases_lt}
@@ -8,7 +8,7 @@ use Rattle.nodes.specs.declared.edge.Edge.{Edge}
 use Rattle.nodes.specs.declared.node.Node.{Node}
 use Rattle.model.specs.Charts.{Time, Chart, plus, lesser, late}
 use Rattle.model.specs.Limits.{greatest_time}
-use Rattle.model.specs.Lists.{In, some}
+use Rattle.model.specs.Lists.{some}
 use Rattle.model.specs.Parts.{least, pieces}
 use Rattle.model.specs.Scenes.{Shape, size}
 use Rattle.model.proofs.Testing.{none_take, none_drop}

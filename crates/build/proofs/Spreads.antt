@@ -1,5 +1,5 @@
 -- The same chart at each setting of a device. Assumes nothing.
-use Rattle.std.proofs.Common.{◌≡◌, ℕ, zero, suc, ◌+◌, ◌*◌, ◌<◌, ◌≤◌, Bool, true, false, ◌||◌, List, [], ◌∷◌, ◌++◌, map, length, get_or, take, drop, set, Some, None, Option, sym, refl, ap, ◌∙◌, subst, arith}
+use Rattle.std.proofs.Common.{◌≡◌, ℕ, zero, suc, ◌+◌, ◌*◌, ◌<◌, Bool, true, false, ◌||◌, List, [], ◌∷◌, ◌++◌, length, get_or, drop, set, Option, sym, refl, ap, ◌∙◌, subst, arith}
 use Rattle.std.specs.List.{AllByRecursion as All, range_with_len, flat_map}
 use Rattle.std.proofs.lemmas.List.{get_or-map}
 use Rattle.nodes.specs.declared.edge.Edge.{Edge}
@@ -9,7 +9,7 @@ use Rattle.model.specs.Lists.{In, some}
 use Rattle.model.specs.Parts.{Part, parts, pieces}
 use Rattle.model.specs.Scenes.{Shape, size}
 use Rattle.parts.proofs.Pieces.{pieces_each, length_each}
-use Rattle.store.specs.Stores.{none_edge, chart, Fine}
+use Rattle.store.specs.Stores.{chart, Fine}
 use Rattle.store.specs.Fillings.{Stuck}
 use Rattle.store.proofs.Canon.{knows}
 use Rattle.build.specs.Builds.{Ready, Kids, Grows, Built, Partway, together, piece, spread_chart}

@@ -1,5 +1,5 @@
 -- The steps of any operation that builds a node kid by kid. Assumes nothing.
-use Rattle.std.proofs.Common.{◌≡◌, ℕ, zero, suc, ◌+◌, ◌-◌, ◌*◌, ◌<◌, ◌≤◌, ◌⊎◌, List, [], ◌∷◌, ◌++◌, map, length, get_or, take, drop, set, replicate, Some, None, Option, sym, refl, ap, ◌∙◌, subst, inl, inr, suc-mul, arith, length-drop, take-append-drop, length-take, below_more}
+use Rattle.std.proofs.Common.{◌≡◌, ℕ, zero, suc, ◌+◌, ◌-◌, ◌*◌, ◌<◌, ◌≤◌, List, [], ◌∷◌, ◌++◌, length, get_or, take, drop, set, replicate, Option, sym, refl, ap, ◌∙◌, subst, inl, inr, suc-mul, arith, length-drop, take-append-drop, below_more}
 use Rattle.std.specs.List.{AllByRecursion as All, flat_map}
 use Rattle.std.proofs.lemmas.List.{drop_more, get_or-take, get_or-drop, get_or-replicate, ext_get_or, length-set, get_or-set_same, get_or-set_other, length-replicate, length-take-le}
 use Rattle.nodes.specs.declared.edge.Edge.{Edge}

@@ -1,5 +1,5 @@
 -- What an operation on a store builds. Assumes nothing.
-use Rattle.std.specs.Prelude.{◌≡◌, ℕ, ◌+◌, ◌-◌, ◌%◌, ◌<◌, ◌≤◌, List, [], ◌∷◌, map, length, take, drop, replicate, Some, None, Option, slice_index, slice_index_or}
+use Rattle.std.specs.Prelude.{◌≡◌, ℕ, ◌+◌, ◌-◌, ◌%◌, ◌<◌, ◌≤◌, List, [], map, length, take, drop, replicate, Some, None, Option, slice_index, slice_index_or}
 use Rattle.std.specs.List.{AllByRecursion as All, range_with_len, flat_map}
 use Rattle.table.specs.Tables.{Table, Kept}
 use Rattle.nodes.specs.Hashes.{mixed}

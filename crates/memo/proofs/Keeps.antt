@@ -1,5 +1,5 @@
 -- What is remembered stays right as the store grows, and as one result is added. Assumes nothing.
-use Rattle.std.proofs.Common.{◌≡◌, ℕ, Bool, true, false, ◌⊎◌, List, drop, is_some, Some, None, Option, sym, refl, ap, ◌∙◌, subst, inl, inr}
+use Rattle.std.proofs.Common.{◌≡◌, ℕ, ◌⊎◌, List, drop, is_some, Some, None, Option, sym, refl, ap, ◌∙◌, subst, inl, inr}
 use Rattle.std.proofs.lemmas.Bool.{both_ways, cases_eq}
 use Rattle.table.specs.Tables.{slot, Table, Kept, Empty}
 use Rattle.table.specs.Finds.{Interned, Placed}
@@ -7,7 +7,6 @@ use Rattle.nodes.specs.Keys.{SameKey, initial_of}
 use Rattle.nodes.specs.declared.edge.Edge.{Edge}
 use Rattle.nodes.specs.declared.node.Node.{Node}
 use Rattle.nodes.specs.declared.remembered.Remembered.{Remembered}
-use Rattle.model.specs.Charts.{Chart}
 use Rattle.model.specs.Scenes.{Shape}
 use Rattle.store.specs.Stores.{chart, Fine, Store}
 use Rattle.store.proofs.Grows.{fine_kept, chart_kept}

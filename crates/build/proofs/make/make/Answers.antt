@@ -1,7 +1,6 @@
-use Rattle.std.proofs.Common.{◌≡◌, ◌+◌, ◌⊎◌, List, length, drop, Some, None, Option, sym, refl, ap, ◌∙◌, subst, arith, rules}
+use Rattle.std.proofs.Common.{◌≡◌, ◌+◌, ◌⊎◌, List, drop, Some, Option, sym, ap, ◌∙◌, subst, arith, rules}
 use Rattle.table.specs.Tables.{slot}
 use Rattle.table.specs.Finds.{Crowded, Placed}
-use Rattle.nodes.specs.declared.edge.Edge.{Edge}
 use Rattle.nodes.specs.declared.node.Node.{Node}
 use Rattle.store.specs.Fillings.{Stuck}
 use Rattle.build.specs.Builds.{wanted, Grows, together}

@@ -1,4 +1,4 @@
-use Rattle.std.proofs.Common.{◌≡◌, ◌+◌, get_or, drop, sym, refl, ap, ◌∙◌, subst, arith, rules}
+use Rattle.std.proofs.Common.{◌≡◌, get_or, subst, arith}
 use Rattle.model.specs.Charts.{Chart}
 use Rattle.build.specs.Builds.{Grows, Built}
 use Rattle.build.proofs.Spreads.{spread_more, spread_kids, spread_is, spread_timely}

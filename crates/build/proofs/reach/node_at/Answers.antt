@@ -1,4 +1,4 @@
-use Rattle.std.proofs.Common.{◌≡◌, ap}
+use Rattle.std.proofs.Common.{ap}
 use Rattle.store.specs.Stores.{node_in}
 use Rattle.build.proofs.reach.node_at.Goals as goal
 
