@@ -8,15 +8,15 @@ use Rattle.flat.specs.Rowing.{within_row, row_size, dial_left}
 use Rattle.flat.specs.Hanging.{flat_hung, timely_hung}
 use Rattle.flat.proofs.store.FlatShelf.hang_dial.Goals as goal
 
-pub dial-row-requires : goal.dial-row-requires
-dial-row-requires c =
+pub dial_row-requires : goal.dial_row-requires
+dial_row-requires c =
     let s = c.args.self.now in
     let ns = shape_of s.shape in
     let v = c.args.device in
     let x = c.strides-strides.result in
     let e = c.strides-strides.ensures in
     let n = c.scenes-n.result in
-    let room : 8 * n ≤ length c.as-mut-slice.result.now = omega (arith, s.room, c.scenes-n.ensures.value, c.as-mut-slice.ensures.len) in
+    let room : 8 * n ≤ length c.as_mut_slice.result.now = omega (arith, s.room, c.scenes-n.ensures.value, c.as_mut_slice.ensures.len) in
     let all = row_size ns v x.blocks x.count x.stride c.requires.low.1 e.blocks e.count e.stride in
     record {
       some = omega (arith, e.blocks, size_some (take v ns) (legal_take v ns s.shape.legal).1);
@@ -24,24 +24,23 @@ dial-row-requires c =
       few = omega (arith, e.count, (setting_count ns v (legal_parts ns s.shape.legal).2 c.requires.low.1).1);
     }
 
-pub invariant-of-self : goal.invariant-of-self
-invariant-of-self c =
+pub invariant_of-self : goal.invariant_of-self
+invariant_of-self c =
     let s = c.args.self.now in
     let ns = shape_of s.shape in
     let t = c.args.target in
     let x = c.strides-strides.result in
     let e = c.strides-strides.ensures in
-    let new = c.dial-row.new.cells in
+    let new = c.dial_row.new.cells in
     let len : length new ≡ vec_len s.cells = search rules in
     let eight : length s.hung ≡ 8 = search rules in
-    let w = dial_left ns c.scenes-n.result t (vec_items s.cells) c.as-mut-slice.result.now new c.scenes-n.ensures.value c.as-mut-slice.ensures.value c.requires.low.0 (omega (arith, s.room, s.cells.ok.0)) (omega (arith, len, s.cells.ok.0)) c.args.device x.blocks x.count x.stride c.requires.low.1 e.blocks e.count e.stride c.args.entries.now c.dial-row.ensures.blocks in (
-      s.room,
-      (
-        subst (λ (xs : List Time). Timely ns xs (set s.hung t true)) (sym (with_items_is s.cells new len))
-            (timely_hung ns (vec_items s.cells) s.hung eight t c.requires.low.0 new _ w s.timely c.requires.legal),
-        tt,
-      ),
-    )
+    let w = dial_left ns c.scenes-n.result t (vec_items s.cells) c.as_mut_slice.result.now new c.scenes-n.ensures.value c.as_mut_slice.ensures.value c.requires.low.0 (omega (arith, s.room, s.cells.ok.0)) (omega (arith, len, s.cells.ok.0)) c.args.device x.blocks x.count x.stride c.requires.low.1 e.blocks e.count e.stride c.args.entries.now c.dial_row.ensures.blocks in
+    record {
+      room = s.room;
+      timely =
+          subst (λ (xs : List Time). Timely ns xs (set s.hung t true)) (sym (with_items_is s.cells new len))
+          (timely_hung ns (vec_items s.cells) s.hung eight t c.requires.low.0 new _ w s.timely c.requires.legal);
+    }
 
 pub returns : goal.returns
 returns c =
@@ -50,10 +49,10 @@ returns c =
     let t = c.args.target in
     let x = c.strides-strides.result in
     let e = c.strides-strides.ensures in
-    let new = c.dial-row.new.cells in
+    let new = c.dial_row.new.cells in
     let len : length new ≡ vec_len s.cells = search rules in
     let eight : length s.hung ≡ 8 = search rules in
-    let w = dial_left ns c.scenes-n.result t (vec_items s.cells) c.as-mut-slice.result.now new c.scenes-n.ensures.value c.as-mut-slice.ensures.value c.requires.low.0 (omega (arith, s.room, s.cells.ok.0)) (omega (arith, len, s.cells.ok.0)) c.args.device x.blocks x.count x.stride c.requires.low.1 e.blocks e.count e.stride c.args.entries.now c.dial-row.ensures.blocks in
+    let w = dial_left ns c.scenes-n.result t (vec_items s.cells) c.as_mut_slice.result.now new c.scenes-n.ensures.value c.as_mut_slice.ensures.value c.requires.low.0 (omega (arith, s.room, s.cells.ok.0)) (omega (arith, len, s.cells.ok.0)) c.args.device x.blocks x.count x.stride c.requires.low.1 e.blocks e.count e.stride c.args.entries.now c.dial_row.ensures.blocks in
     record {
       hung =
           ap (λ (xs : List Time). flat ns xs (set s.hung t true)) (with_items_is s.cells new len)

@@ -3,12 +3,12 @@ use Rattle.cells.proofs.Writing.{rows_up}
 use Rattle.flat.specs.Rowing.{within_row}
 use Rattle.flat.proofs.store.FlatShelf.row.Goals as goal
 
-pub offset-bounds-cells-peg : goal.offset-bounds-cells-peg
-offset-bounds-cells-peg c = omega (arith, rows_up c.args.peg 8 c.scenes-n.result (omega (arith, c.requires.low)), c.scenes-n.ensures.bound)
+pub offset_bounds-cells-peg : goal.offset_bounds-cells-peg
+offset_bounds-cells-peg c = omega (arith, rows_up c.args.peg 8 c.scenes-n.result (omega (arith, c.requires.low)), c.scenes-n.ensures.bound)
 
-pub slice-bounds-result-end : goal.slice-bounds-result-end
-slice-bounds-result-end c =
+pub slice_bounds-result-end : goal.slice_bounds-result-end
+slice_bounds-result-end c =
     let s = c.args.self.now in
     let n = c.scenes-n.result in
-    let room : 8 * n ≤ length c.as-slice-cells.result.now = omega (arith, s.room, c.scenes-n.ensures.value, c.as-slice-cells.ensures.len) in
-    within_row c.args.peg n (length c.as-slice-cells.result.now) c.requires.low room
+    let room : 8 * n ≤ length c.as_slice-cells.result.now = omega (arith, s.room, c.scenes-n.ensures.value, c.as_slice-cells.ensures.len) in
+    within_row c.args.peg n (length c.as_slice-cells.result.now) c.requires.low room

@@ -4,8 +4,8 @@ use Rattle.model.proofs.Lateness.{late_tells}
 use Rattle.flat.specs.Means.{row_of}
 use Rattle.flat.proofs.store.FlatShelf.sum_is_late.Goals as goal
 
-pub sum-is-late-requires : goal.sum-is-late-requires
-sum-is-late-requires c =
+pub sum_is_late-requires : goal.sum_is_late-requires
+sum_is_late-requires c =
     let s = c.args.self.now in
     record {
       timely = (

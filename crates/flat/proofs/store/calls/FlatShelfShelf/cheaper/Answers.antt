@@ -21,8 +21,8 @@ returns-then-not-self-l c =
     let e = cheaper_bare (shape_of s.shape) (vec_items s.cells) s.hung l r c.if-l-ge-PEGS.false c.if-r-ge-PEGS.false c.args.target c.if-t-ge-PEGS.false bare in
     record { answer = sym e; left = sym (call_refused (means s) (cheaper c.args.target l r) 15 e) }
 
-pub hang-joined-requires : goal.hang-joined-requires
-hang-joined-requires c =
+pub hang_joined-requires : goal.hang_joined-requires
+hang_joined-requires c =
     let s = c.args.self.now in
     let ns = shape_of s.shape in
     let cells = vec_items s.cells in
@@ -39,5 +39,5 @@ returns c =
     let cells = vec_items s.cells in
     record {
       answer = sym (cheaper_does ns cells s.hung c.args.left c.args.right c.if-l-ge-PEGS.false c.if-r-ge-PEGS.false c.args.target c.if-t-ge-PEGS.false c.if-not-self-l.false c.if-not-self-r.false);
-      left = cheaper_done ns cells s.hung c.args.left c.args.right c.if-l-ge-PEGS.false c.if-r-ge-PEGS.false c.args.target c.if-t-ge-PEGS.false c.if-not-self-l.false c.if-not-self-r.false _ c.hang-joined.ensures.hung;
+      left = cheaper_done ns cells s.hung c.args.left c.args.right c.if-l-ge-PEGS.false c.if-r-ge-PEGS.false c.args.target c.if-t-ge-PEGS.false c.if-not-self-l.false c.if-not-self-r.false _ c.hang_joined.ensures.hung;
     }

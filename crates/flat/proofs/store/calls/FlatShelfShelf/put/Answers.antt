@@ -31,8 +31,8 @@ returns-then-not-self-a c =
     let e = put_bare ns (vec_items s.cells) s.hung c.args.target c.args.source c.args.device c.args.setting device setting c.if-t-ge-PEGS.false c.if-a-ge-PEGS.false c.if-not-self-a.true in
     record { answer = sym e; left = sym (call_refused (means s) (put c.args.target c.args.source c.args.device c.args.setting) 15 e) }
 
-pub hang-put-requires : goal.hang-put-requires
-hang-put-requires c =
+pub hang_put-requires : goal.hang_put-requires
+hang_put-requires c =
     let s = c.args.self.now in
     let ns = shape_of s.shape in
     let cells = vec_items s.cells in
@@ -53,5 +53,5 @@ returns c =
     let setting : c.args.setting < get_or ns c.args.device 0 = omega (arith, c.if-d-count.false, c.count.ensures.value) in
     record {
       answer = sym (put_does ns cells s.hung c.args.target c.args.source c.args.device c.args.setting device setting c.if-t-ge-PEGS.false c.if-a-ge-PEGS.false c.if-not-self-a.false);
-      left = put_done ns cells s.hung c.args.target c.args.source c.args.device c.args.setting device setting c.if-t-ge-PEGS.false c.if-a-ge-PEGS.false c.if-not-self-a.false _ c.hang-put.ensures.hung;
+      left = put_done ns cells s.hung c.args.target c.args.source c.args.device c.args.setting device setting c.if-t-ge-PEGS.false c.if-a-ge-PEGS.false c.if-not-self-a.false _ c.hang_put.ensures.hung;
     }

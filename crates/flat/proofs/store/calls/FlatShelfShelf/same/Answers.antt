@@ -22,5 +22,5 @@ returns c =
     record {
       answer =
           compares_rows (shape_of s.shape) (vec_items s.cells) s.hung c.args.left c.args.right c.if-l-ge-PEGS.false c.if-r-ge-PEGS.false c.if-not-self-l.false c.if-not-self-r.false
-          c.row.result.now c.row-2.result.now c.same-rows.result c.same-rows.ensures.value c.row.ensures.value c.row-2.ensures.value;
+          c.row.result.now c.row-2.result.now c.same_rows.result c.same_rows.ensures.value c.row.ensures.value c.row-2.ensures.value;
     }

@@ -21,8 +21,8 @@ returns-then-not-self-l c =
     let e = sum_bare (shape_of s.shape) (vec_items s.cells) s.hung l r c.if-l-ge-PEGS.false c.if-r-ge-PEGS.false c.args.target c.if-t-ge-PEGS.false bare in
     record { answer = sym e; left = sym (call_refused (means s) (sum c.args.target l r) 15 e) }
 
-pub sum-is-late-requires : goal.sum-is-late-requires
-sum-is-late-requires c =
+pub sum_is_late-requires : goal.sum_is_late-requires
+sum_is_late-requires c =
     let s = c.args.self.now in
     let ns = shape_of s.shape in
     let cells = vec_items s.cells in
@@ -31,21 +31,21 @@ sum-is-late-requires c =
       legal = (row_legal ns cells s.hung c.args.left c.if-not-self-l.false s.timely, row_legal ns cells s.hung c.args.right c.if-not-self-r.false s.timely);
     }
 
-pub returns-then-sum-is-late : goal.returns-then-sum-is-late
-returns-then-sum-is-late c =
+pub returns-then-sum_is_late : goal.returns-then-sum_is_late
+returns-then-sum_is_late c =
     let s = c.args.self.now in
-    let e = sum_late (shape_of s.shape) (vec_items s.cells) s.hung c.args.left c.args.right c.if-l-ge-PEGS.false c.if-r-ge-PEGS.false c.args.target c.if-t-ge-PEGS.false c.if-not-self-l.false c.if-not-self-r.false c.sum-is-late.result c.sum-is-late.ensures.value c.if-sum-is-late.true in
+    let e = sum_late (shape_of s.shape) (vec_items s.cells) s.hung c.args.left c.args.right c.if-l-ge-PEGS.false c.if-r-ge-PEGS.false c.args.target c.if-t-ge-PEGS.false c.if-not-self-l.false c.if-not-self-r.false c.sum_is_late.result c.sum_is_late.ensures.value c.if-sum_is_late.true in
     record { answer = sym e; left = sym (call_refused (means s) (sum c.args.target c.args.left c.args.right) 16 e) }
 
-pub hang-joined-requires : goal.hang-joined-requires
-hang-joined-requires c =
+pub hang_joined-requires : goal.hang_joined-requires
+hang_joined-requires c =
     let s = c.args.self.now in
     let ns = shape_of s.shape in
     let cells = vec_items s.cells in
     let sound : Sound (means s) = flat_sound ns cells s.hung s.shape.legal (omega (arith, s.room, s.cells.ok.0)) s.timely in
     record {
       low = (omega arith, (omega arith, omega arith));
-      legal = sum_legal ns cells s.hung c.args.left c.args.right c.if-l-ge-PEGS.false c.if-r-ge-PEGS.false c.args.target c.if-t-ge-PEGS.false c.if-not-self-l.false c.if-not-self-r.false c.sum-is-late.result c.sum-is-late.ensures.value c.if-sum-is-late.false sound;
+      legal = sum_legal ns cells s.hung c.args.left c.args.right c.if-l-ge-PEGS.false c.if-r-ge-PEGS.false c.args.target c.if-t-ge-PEGS.false c.if-not-self-l.false c.if-not-self-r.false c.sum_is_late.result c.sum_is_late.ensures.value c.if-sum_is_late.false sound;
     }
 
 pub returns : goal.returns
@@ -54,6 +54,6 @@ returns c =
     let ns = shape_of s.shape in
     let cells = vec_items s.cells in
     record {
-      answer = sym (sum_does ns cells s.hung c.args.left c.args.right c.if-l-ge-PEGS.false c.if-r-ge-PEGS.false c.args.target c.if-t-ge-PEGS.false c.if-not-self-l.false c.if-not-self-r.false c.sum-is-late.result c.sum-is-late.ensures.value c.if-sum-is-late.false);
-      left = sum_done ns cells s.hung c.args.left c.args.right c.if-l-ge-PEGS.false c.if-r-ge-PEGS.false c.args.target c.if-t-ge-PEGS.false c.if-not-self-l.false c.if-not-self-r.false c.sum-is-late.result c.sum-is-late.ensures.value c.if-sum-is-late.false _ c.hang-joined.ensures.hung;
+      answer = sym (sum_does ns cells s.hung c.args.left c.args.right c.if-l-ge-PEGS.false c.if-r-ge-PEGS.false c.args.target c.if-t-ge-PEGS.false c.if-not-self-l.false c.if-not-self-r.false c.sum_is_late.result c.sum_is_late.ensures.value c.if-sum_is_late.false);
+      left = sum_done ns cells s.hung c.args.left c.args.right c.if-l-ge-PEGS.false c.if-r-ge-PEGS.false c.args.target c.if-t-ge-PEGS.false c.if-not-self-l.false c.if-not-self-r.false c.sum_is_late.result c.sum_is_late.ensures.value c.if-sum_is_late.false _ c.hang_joined.ensures.hung;
     }

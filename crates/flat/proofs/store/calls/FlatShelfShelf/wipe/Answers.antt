@@ -8,11 +8,11 @@ use Rattle.flat.specs.Hanging.{flat_wiped, timely_wiped}
 use Rattle.flat.proofs.Calling.{low_peg}
 use Rattle.flat.proofs.store.calls.FlatShelfShelf.wipe.Goals as goal
 
-pub invariant-of-self : goal.invariant-of-self
-invariant-of-self c =
+pub invariant_of-self : goal.invariant_of-self
+invariant_of-self c =
     let s = c.args.self.now in
     let eight : length s.hung ≡ 8 = search rules in
-    (s.room, (timely_wiped (shape_of s.shape) (vec_items s.cells) s.hung eight c.args.peg c.if-p-ge-PEGS.false s.timely, tt))
+    record { room = s.room; timely = timely_wiped (shape_of s.shape) (vec_items s.cells) s.hung eight c.args.peg c.if-p-ge-PEGS.false s.timely }
 
 pub returns : goal.returns
 returns c =
