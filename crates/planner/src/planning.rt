@@ -19,7 +19,7 @@ const WORK_PEGS: u8 = 5;
 
 /// Makes the pegs bare that a plan works on.
 fn clear<S: Shelf>(shelf: &mut S)
-    ensures left { meaning shelf.new ≡ cleared (meaning shelf.old) }
+    ensures left { S.meaning shelf.new ≡ cleared (S.meaning shelf.old) }
 {
     for peg in 0..WORK_PEGS {
         let _ = shelf.wipe(peg);
@@ -41,8 +41,8 @@ fn best_way<S: Shelf>(
     rounds: u64,
     sheet: &mut [u8],
 ) -> Result<Plan, PlanFault>
-    requires ready { Ready (contents rig.now) (meaning shelf.now) }
-    requires timed { first_peg (contents rig.now) (meaning shelf.now) (contents rig.now).scene ≡ Some time }
+    requires ready { Ready (contents rig.now) (S.meaning shelf.now) }
+    requires timed { first_peg (contents rig.now) (S.meaning shelf.now) (contents rig.now).scene ≡ Some time }
     ensures filled { Fills (contents rig.now) time rounds sheet.old result sheet.new }
 {
     let moves = walk(rig, shelf, time, &mut []);
@@ -60,9 +60,9 @@ fn best_way<S: Shelf>(
 /// Plans with a shelf of the rig's shape.
 fn search<S: Shelf>(rig: &Rig, shelf: &mut S, sheet: &mut [u8]) -> Result<Plan, PlanFault>
     requires lawful { Lawful (contents rig.now) }
-    requires shape { (meaning shelf.old).shape ≡ (contents rig.now).settings }
-    ensures found { Found (contents rig.now) (meaning shelf.old) sheet.old result sheet.new }
-    ensures left { cleared (meaning shelf.new) ≡ cleared (meaning shelf.old) }
+    requires shape { (S.meaning shelf.old).shape ≡ (contents rig.now).settings }
+    ensures found { Found (contents rig.now) (S.meaning shelf.old) sheet.old result sheet.new }
+    ensures left { cleared (S.meaning shelf.new) ≡ cleared (S.meaning shelf.old) }
 {
     let rounds = iterate(rig, shelf)?;
     match time_from(shelf, rig.scene()) {
@@ -74,7 +74,7 @@ fn search<S: Shelf>(rig: &Rig, shelf: &mut S, sheet: &mut [u8]) -> Result<Plan, 
 /// Finds the quickest run of moves from the present scene to a wanted one, if there is one, by the planning rule on the
 /// shelf. Its moves fill the sheet's front. Pegs 0 to 4 are left bare, the others as they were.
 pub fn plan<S: Shelf>(rig: &Rig, shelf: &mut S, sheet: &mut [u8]) -> Result<Plan, PlanFault>
-    ensures planned { Planned (contents rig.now) (meaning shelf.old) sheet.old result (meaning shelf.new) sheet.new }
+    ensures planned { Planned (contents rig.now) (S.meaning shelf.old) sheet.old result (S.meaning shelf.new) sheet.new }
 {
     if !alike(shelf.shape(), rig.settings()) {
         return Err(PlanFault::ShapesDiffer);

@@ -21,9 +21,9 @@ use shelf::calls::Shelf;
 
 /// The time that peg 0 gives a scene, or none.
 pub(crate) fn time_from<S: Shelf>(shelf: &S, scene: &[u8]) -> Option<u64>
-    requires hung { bare (meaning shelf.now).pegs 0 ≡ false }
-    requires within { SceneOf (meaning shelf.now).shape scene.now }
-    ensures value { result ≡ at (meaning shelf.now).shape (on (meaning shelf.now).pegs 0) scene.now }
+    requires hung { bare (S.meaning shelf.now).pegs 0 ≡ false }
+    requires within { SceneOf (S.meaning shelf.now).shape scene.now }
+    ensures value { result ≡ at (S.meaning shelf.now).shape (on (S.meaning shelf.now).pegs 0) scene.now }
 {
     match shelf.at(0, scene) {
         Ok(time) => time,
@@ -33,10 +33,10 @@ pub(crate) fn time_from<S: Shelf>(shelf: &S, scene: &[u8]) -> Option<u64>
 
 /// Where a move leads, if it may be made and loses no time.
 fn led_by_move<S: Shelf>(rig: &Rig, shelf: &S, point: &Point, entry: &Move) -> Option<Point>
-    requires ready { Ready (contents rig.now) (meaning shelf.now) }
-    requires stands { Stands (contents rig.now) (meaning shelf.now) point.now }
+    requires ready { Ready (contents rig.now) (S.meaning shelf.now) }
+    requires stands { Stands (contents rig.now) (S.meaning shelf.now) point.now }
     requires lawful { LawfulMove (contents rig.now).settings (move_of entry.now) }
-    ensures led { Led (contents rig.now) (meaning shelf.now) point.now (Some (action_of (move_of entry.now))) result }
+    ensures led { Led (contents rig.now) (S.meaning shelf.now) point.now (Some (action_of (move_of entry.now))) result }
 {
     let scene = point.scene;
     if !every_holds(entry.conditions(), scene.as_slice()) {
@@ -61,10 +61,10 @@ fn led_by_move<S: Shelf>(rig: &Rig, shelf: &S, point: &Point, entry: &Move) -> O
 
 /// Where the move of a slot leads, if there is one that may be made and loses no time.
 fn led<S: Shelf>(rig: &Rig, shelf: &S, point: &Point, slot: &Option<Move>) -> Option<Point>
-    requires ready { Ready (contents rig.now) (meaning shelf.now) }
-    requires stands { Stands (contents rig.now) (meaning shelf.now) point.now }
+    requires ready { Ready (contents rig.now) (S.meaning shelf.now) }
+    requires stands { Stands (contents rig.now) (S.meaning shelf.now) point.now }
     requires lawful { LawfulSlot (contents rig.now).settings (slot_of slot.now) }
-    ensures led { Led (contents rig.now) (meaning shelf.now) point.now (action_in (slot_of slot.now)) result }
+    ensures led { Led (contents rig.now) (S.meaning shelf.now) point.now (action_in (slot_of slot.now)) result }
 {
     match slot {
         Some(entry) => led_by_move(rig, shelf, point, entry),
@@ -74,10 +74,10 @@ fn led<S: Shelf>(rig: &Rig, shelf: &S, point: &Point, slot: &Option<Move>) -> Op
 
 /// The move of the smallest number that loses no time, and where it leads.
 fn next_stride<S: Shelf>(rig: &Rig, shelf: &S, point: &Point) -> Stride
-    requires ready { Ready (contents rig.now) (meaning shelf.now) }
-    requires stands { Stands (contents rig.now) (meaning shelf.now) point.now }
+    requires ready { Ready (contents rig.now) (S.meaning shelf.now) }
+    requires stands { Stands (contents rig.now) (S.meaning shelf.now) point.now }
     requires far { 0 < point.now.left }
-    ensures strides { Strides (contents rig.now) (meaning shelf.now) point.now result }
+    ensures strides { Strides (contents rig.now) (S.meaning shelf.now) point.now result }
 {
     let slots = rig.slots();
     for number in 0..slots.len() {
@@ -114,8 +114,8 @@ fn note(sheet: &mut [u8], place: usize, number: u8)
 
 /// Takes the best way, writes the numbers of its moves as far as the sheet goes, and answers how many they are.
 pub(crate) fn walk<S: Shelf>(rig: &Rig, shelf: &S, time: u64, sheet: &mut [u8]) -> usize
-    requires ready { Ready (contents rig.now) (meaning shelf.now) }
-    requires timed { first_peg (contents rig.now) (meaning shelf.now) (contents rig.now).scene ≡ Some time }
+    requires ready { Ready (contents rig.now) (S.meaning shelf.now) }
+    requires timed { first_peg (contents rig.now) (S.meaning shelf.now) (contents rig.now).scene ≡ Some time }
     ensures walked { Walked (contents rig.now) time sheet.old result sheet.new }
 {
     let mut point = beginning(rig, time);

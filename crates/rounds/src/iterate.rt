@@ -17,9 +17,9 @@ use steps::hanging::Hanging;
 
 /// Whether the last round made no scene cheaper: pegs 0 and 1 carry equal charts.
 fn settled<S: Shelf>(shelf: &S) -> bool
-    requires first { bare (meaning shelf.now).pegs 0 ≡ false }
-    requires second { bare (meaning shelf.now).pegs 1 ≡ false }
-    ensures value { result ≡ same_chart (on (meaning shelf.now).pegs 0) (on (meaning shelf.now).pegs 1) }
+    requires first { bare (S.meaning shelf.now).pegs 0 ≡ false }
+    requires second { bare (S.meaning shelf.now).pegs 1 ≡ false }
+    ensures value { result ≡ same_chart (on (S.meaning shelf.now).pegs 0) (on (S.meaning shelf.now).pegs 1) }
 {
     match shelf.same(0, 1) {
         Ok(same) => same,
@@ -30,9 +30,9 @@ fn settled<S: Shelf>(shelf: &S) -> bool
 /// Takes rounds until one makes no scene cheaper, and answers how many did.
 fn repeat_rounds<S: Shelf>(rig: &Rig, shelf: &mut S) -> Result<u64, PlanFault>
     requires lawful { Lawful (contents rig.now) }
-    requires shape { (meaning shelf.old).shape ≡ (contents rig.now).settings }
-    requires first { slice_index_or (meaning shelf.old).pegs 0 None ≡ Some (chart_after (contents rig.now) 0) }
-    ensures made { Made (meaning shelf.old) (rounds_after (contents rig.now) 0) result (meaning shelf.new) }
+    requires shape { (S.meaning shelf.old).shape ≡ (contents rig.now).settings }
+    requires first { slice_index_or (S.meaning shelf.old).pegs 0 None ≡ Some (chart_after (contents rig.now) 0) }
+    ensures made { Made (S.meaning shelf.old) (rounds_after (contents rig.now) 0) result (S.meaning shelf.new) }
     ensures counted { Counted (contents rig.now) result }
 {
     let mut changed = 0;
@@ -57,8 +57,8 @@ fn repeat_rounds<S: Shelf>(rig: &Rig, shelf: &mut S) -> Result<u64, PlanFault>
 /// Follows the planning rule up to the round that makes no scene cheaper, and answers how many made some cheaper.
 pub fn iterate<S: Shelf>(rig: &Rig, shelf: &mut S) -> Result<u64, PlanFault>
     requires lawful { Lawful (contents rig.now) }
-    requires shape { (meaning shelf.old).shape ≡ (contents rig.now).settings }
-    ensures made { Made (meaning shelf.old) (rule (contents rig.now)) result (meaning shelf.new) }
+    requires shape { (S.meaning shelf.old).shape ≡ (contents rig.now).settings }
+    ensures made { Made (S.meaning shelf.old) (rule (contents rig.now)) result (S.meaning shelf.new) }
     ensures counted { Counted (contents rig.now) result }
 {
     before_rounds(shelf, rig.masks())?;

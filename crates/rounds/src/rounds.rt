@@ -17,7 +17,7 @@ use steps::hanging::Hanging;
 /// Adds the masks of all devices but the first to peg 0: 0 at admitted settings, never elsewhere.
 fn masked<S: Shelf>(shelf: &mut S, masks: &[u8]) -> Result<(), Halt>
     requires few { length masks.now ≤ most_devices }
-    ensures ended { Hung (meaning shelf.old) 0 (the_masked 1 (drop 1 masks.now)) result (meaning shelf.new) }
+    ensures ended { Hung (S.meaning shelf.old) 0 (the_masked 1 (drop 1 masks.now)) result (S.meaning shelf.new) }
 {
     for device in 1..masks.len() {
         let entries = admitting(masks[device]);
@@ -30,7 +30,7 @@ fn masked<S: Shelf>(shelf: &mut S, masks: &[u8]) -> Result<(), Halt>
 pub(crate) fn before_rounds<S: Shelf>(shelf: &mut S, masks: &[u8]) -> Result<(), Halt>
     requires some { 1 ≤ length masks.now }
     requires few { length masks.now ≤ most_devices }
-    ensures ended { Hung (meaning shelf.old) 0 (round_0 masks.now) result (meaning shelf.new) }
+    ensures ended { Hung (S.meaning shelf.old) 0 (round_0 masks.now) result (S.meaning shelf.new) }
 {
     let entries = admitting(masks[0]);
     hang(
@@ -48,7 +48,7 @@ pub(crate) fn before_rounds<S: Shelf>(shelf: &mut S, masks: &[u8]) -> Result<(),
 /// Lowers peg 1 to the times by way of each move, by rising number.
 fn by_moves<S: Shelf>(shelf: &mut S, slots: &[Option<Move>], round: u64) -> Result<(), PlanFault>
     requires few { length slots.now ≤ most_slots }
-    ensures made { Made (meaning shelf.old) (by_moves round 0 (map slot_of slots.now)) result (meaning shelf.new) }
+    ensures made { Made (S.meaning shelf.old) (by_moves round 0 (map slot_of slots.now)) result (S.meaning shelf.new) }
 {
     for number in 0..slots.len() {
         if let Err(halt) = lowered(shelf, &slots[number], round) {
@@ -65,7 +65,7 @@ pub(crate) fn one_round<S: Shelf>(
     round: u64,
 ) -> Result<(), PlanFault>
     requires few { length slots.now ≤ most_slots }
-    ensures made { Made (meaning shelf.old) (the_round round (map slot_of slots.now)) result (meaning shelf.new) }
+    ensures made { Made (S.meaning shelf.old) (the_round round (map slot_of slots.now)) result (S.meaning shelf.new) }
 {
     hang(
         shelf,

@@ -1,9 +1,9 @@
 -- The calls of a move, as the code makes them. Assumes nothing.
-use Rattle.std.proofs.Common.{◌≡◌, ℕ, ◌+◌, ◌-◌, ◌<◌, ◌≤◌, List, [], ◌∷◌, ◌++◌, map, length, get_or, take, drop, Some, None, Ok, Err, Option, sym, refl, ap, ◌∙◌, subst, arith}
-use Rattle.std.proofs.lemmas.List.{take_all, append-nil, append_assoc}
+use Rattle.std.proofs.Common.{◌≡◌, ℕ, ◌+◌, ◌-◌, ◌<◌, List, [], ◌∷◌, ◌++◌, map, length, get_or, take, drop, Some, None, Ok, Option, sym, refl, ap, ◌∙◌, arith}
+use Rattle.std.proofs.lemmas.List.{take_all, append_assoc}
 use Rattle.model.specs.Charts.{Time}
 use Rattle.model.specs.Moves as model
-use Rattle.model.specs.Shelves.{Meaning, Call, dial, cheaper, sum, put}
+use Rattle.model.specs.Shelves.{Meaning, Call, dial, cheaper, sum}
 use Rattle.rule.specs.Steps.{entries, only, dearer, copy, effected, conditioned, based, further, tested, surcharged, tried, of_slot}
 use Rattle.moves.specs.declared.pair.Pair.{Pair}
 use Rattle.moves.specs.declared.entry.Surcharge.{Surcharge}

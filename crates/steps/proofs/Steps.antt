@@ -1,6 +1,6 @@
 -- Steps one after another. Assumes nothing.
 use Rattle.std.proofs.Common.{◌≡◌, ℕ, ◌+◌, ◌<◌, ◌≤◌, List, [], ◌∷◌, ◌++◌, length, get_or, drop, IsErrAnd, Ok, Err, Option, Result, sym, refl, ap, ◌∙◌, subst, arith}
-use Rattle.std.proofs.lemmas.List.{drop_more, drop_all, append-nil}
+use Rattle.std.proofs.lemmas.List.{drop_more, drop_all}
 use Rattle.model.specs.Refusals.{left_by}
 use Rattle.model.specs.Shelves.{Meaning, Call, does, done}
 use Rattle.rule.specs.Steps.{Step, marked}

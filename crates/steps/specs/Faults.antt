@@ -3,7 +3,6 @@ use Rattle.std.specs.Prelude.{◌≡◌, ℕ, Option}
 use Rattle.model.specs.Shelves as model
 use Rattle.model.specs.Shelves.{Call}
 use Rattle.rule.specs.Steps.{Step}
-use Rattle.shelf.specs.declared.fault.ShelfFault.{ShelfFault}
 use Rattle.shelf.specs.Faults as shelf
 use Rattle.steps.specs.declared.hanging.Hanging.{Hanging}
 use Rattle.steps.specs.declared.hanging.Hanging.TheVariants.{Dial, Cheaper, Sum, Put}

@@ -16,7 +16,7 @@ use shelf::calls::Shelf;
 
 /// Puts each effect on peg 2, in order.
 fn effected<S: Shelf>(shelf: &mut S, effects: &[Pair], round: u64) -> Result<(), Halt>
-    ensures ended { Hung (meaning shelf.old) round (the_effected (pairs_of effects.now)) result (meaning shelf.new) }
+    ensures ended { Hung (S.meaning shelf.old) round (the_effected (pairs_of effects.now)) result (S.meaning shelf.new) }
 {
     for effect in effects {
         hang(
@@ -41,7 +41,7 @@ pub fn add_dial<S: Shelf>(
     entries: [Option<u64>; MOST_SETTINGS],
     round: u64,
 ) -> Result<(), Halt>
-    ensures ended { Hung (meaning shelf.old) round (a_dial 3 device entries ∷ a_sum target target 3 ∷ []) result (meaning shelf.new) }
+    ensures ended { Hung (S.meaning shelf.old) round (a_dial 3 device entries ∷ a_sum target target 3 ∷ []) result (S.meaning shelf.new) }
 {
     hang(
         shelf,
@@ -65,7 +65,7 @@ pub fn add_dial<S: Shelf>(
 
 /// Adds each condition to peg 2: 0 where it holds, never elsewhere.
 fn conditioned<S: Shelf>(shelf: &mut S, conditions: &[Pair], round: u64) -> Result<(), Halt>
-    ensures ended { Hung (meaning shelf.old) round (the_conditioned (pairs_of conditions.now)) result (meaning shelf.new) }
+    ensures ended { Hung (S.meaning shelf.old) round (the_conditioned (pairs_of conditions.now)) result (S.meaning shelf.new) }
 {
     for condition in conditions {
         let entries = only_at(condition.setting, Some(0), None);
@@ -81,7 +81,7 @@ fn lower_dial<S: Shelf>(
     entries: [Option<u64>; MOST_SETTINGS],
     round: u64,
 ) -> Result<(), Halt>
-    ensures ended { Hung (meaning shelf.old) round (a_dial 4 device entries ∷ a_cheaper 3 3 4 ∷ []) result (meaning shelf.new) }
+    ensures ended { Hung (S.meaning shelf.old) round (a_dial 4 device entries ∷ a_cheaper 3 3 4 ∷ []) result (S.meaning shelf.new) }
 {
     hang(
         shelf,
@@ -105,7 +105,7 @@ fn lower_dial<S: Shelf>(
 
 /// Lowers peg 3 to 0 where one of the tests fails.
 fn further<S: Shelf>(shelf: &mut S, extra: u16, tests: &[Pair], round: u64) -> Result<(), Halt>
-    ensures ended { Hung (meaning shelf.old) round (the_further extra (pairs_of tests.now)) result (meaning shelf.new) }
+    ensures ended { Hung (S.meaning shelf.old) round (the_further extra (pairs_of tests.now)) result (S.meaning shelf.new) }
 {
     for test in tests {
         let entries = only_at(test.setting, Some(extra as u64), Some(0));
@@ -116,7 +116,7 @@ fn further<S: Shelf>(shelf: &mut S, extra: u16, tests: &[Pair], round: u64) -> R
 
 /// Hangs on peg 3 the extra where all tests hold, 0 elsewhere.
 fn tested<S: Shelf>(shelf: &mut S, extra: u16, tests: &[Pair], round: u64) -> Result<(), Halt>
-    ensures ended { Hung (meaning shelf.old) round (the_tested extra (pairs_of tests.now)) result (meaning shelf.new) }
+    ensures ended { Hung (S.meaning shelf.old) round (the_tested extra (pairs_of tests.now)) result (S.meaning shelf.new) }
 {
     if tests.len() == 0 {
         return Ok(());
@@ -136,7 +136,7 @@ fn tested<S: Shelf>(shelf: &mut S, extra: u16, tests: &[Pair], round: u64) -> Re
 
 /// Adds to peg 2 the extra where all tests of a surcharge hold.
 fn add_surcharge<S: Shelf>(shelf: &mut S, surcharge: &Surcharge, round: u64) -> Result<(), Halt>
-    ensures ended { Hung (meaning shelf.old) round (the_surcharged (surcharge_of surcharge.now ∷ [])) result (meaning shelf.new) }
+    ensures ended { Hung (S.meaning shelf.old) round (the_surcharged (surcharge_of surcharge.now ∷ [])) result (S.meaning shelf.new) }
 {
     tested(shelf, surcharge.extra(), surcharge.tests(), round)?;
     hang(
@@ -152,7 +152,7 @@ fn add_surcharge<S: Shelf>(shelf: &mut S, surcharge: &Surcharge, round: u64) -> 
 
 /// Adds each surcharge to peg 2.
 fn surcharged<S: Shelf>(shelf: &mut S, surcharges: &[Surcharge], round: u64) -> Result<(), Halt>
-    ensures ended { Hung (meaning shelf.old) round (the_surcharged (map surcharge_of surcharges.now)) result (meaning shelf.new) }
+    ensures ended { Hung (S.meaning shelf.old) round (the_surcharged (map surcharge_of surcharges.now)) result (S.meaning shelf.new) }
 {
     for surcharge in surcharges {
         add_surcharge(shelf, surcharge, round)?;
@@ -162,7 +162,7 @@ fn surcharged<S: Shelf>(shelf: &mut S, surcharges: &[Surcharge], round: u64) -> 
 
 /// Hangs on peg 2 the times from peg 0 by way of a move.
 fn tried<S: Shelf>(shelf: &mut S, entry: &Move, round: u64) -> Result<(), Halt>
-    ensures ended { Hung (meaning shelf.old) round (the_tried (move_of entry.now)) result (meaning shelf.new) }
+    ensures ended { Hung (S.meaning shelf.old) round (the_tried (move_of entry.now)) result (S.meaning shelf.new) }
 {
     hang(
         shelf,
@@ -181,7 +181,7 @@ fn tried<S: Shelf>(shelf: &mut S, entry: &Move, round: u64) -> Result<(), Halt>
 
 /// Lowers peg 1 to the times by way of the move of a slot, if one is there.
 pub fn lowered<S: Shelf>(shelf: &mut S, slot: &Option<Move>, round: u64) -> Result<(), Halt>
-    ensures ended { Hung (meaning shelf.old) round (of_slot (slot_of slot.now)) result (meaning shelf.new) }
+    ensures ended { Hung (S.meaning shelf.old) round (of_slot (slot_of slot.now)) result (S.meaning shelf.new) }
 {
     match slot {
         Some(entry) => {

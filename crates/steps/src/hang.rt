@@ -12,8 +12,8 @@ use shelf::fault::ShelfFault;
 
 /// Makes the call.
 fn made<S: Shelf>(shelf: &mut S, call: Hanging) -> Result<(), ShelfFault>
-    ensures answer { numbered result ≡ does (meaning shelf.old) (call_of call) }
-    ensures left { meaning shelf.new ≡ done (meaning shelf.old) (call_of call) }
+    ensures answer { numbered result ≡ does (S.meaning shelf.old) (call_of call) }
+    ensures left { S.meaning shelf.new ≡ done (S.meaning shelf.old) (call_of call) }
 {
     match call {
         Hanging::Dial {
@@ -42,7 +42,7 @@ fn made<S: Shelf>(shelf: &mut S, call: Hanging) -> Result<(), ShelfFault>
 
 /// Makes the call in a round. A refusal is passed on with the call and the round.
 pub fn hang<S: Shelf>(shelf: &mut S, call: Hanging, round: u64) -> Result<(), Halt>
-    ensures ended { Hung (meaning shelf.old) round (call_of call ∷ []) result (meaning shelf.new) }
+    ensures ended { Hung (S.meaning shelf.old) round (call_of call ∷ []) result (S.meaning shelf.new) }
 {
     match made(shelf, call) {
         Ok(()) => Ok(()),

@@ -1,18 +1,18 @@
-use Rattle.std.proofs.Common.{List, [], ◌∷◌}
-use Rattle.model.specs.Shelves.{Meaning, Call, dial, cheaper}
-use Rattle.steps.proofs.Steps.{Along, along_none, along_more, along_broken, along_rest}
+use Rattle.std.proofs.Common.{[], ◌∷◌}
+use Rattle.model.specs.Shelves.{Call, dial, cheaper}
+use Rattle.steps.proofs.Steps.{along_none, along_more, along_broken, along_rest}
 use Rattle.steps.proofs.blocks.lower_dial.Goals as goal
 
-pub returns-in-err-hang : goal.returns-in-err-hang
-returns-in-err-hang g c =
+pub returns-in_err-hang : goal.returns-in_err-hang
+returns-in_err-hang g c =
     let here : Call = dial 4 c.args.device c.args.entries in
     record {
-      ended = along_broken (here ∷ []) (cheaper 3 3 4 ∷ []) (g.S.Shelf.meaning c.hang.new.shelf) c.in-err-hang.field-0.0 c.from-residual.result c.from-residual.ensures.1
-          (along_none c.args.round (g.S.Shelf.meaning c.args.shelf.now) (here ∷ cheaper 3 3 4 ∷ [])) c.in-err-hang.ensures.ended;
+      ended = along_broken (here ∷ []) (cheaper 3 3 4 ∷ []) (g.S.Shelf.meaning c.hang.new.shelf) c.in_err-hang.field-0.0 c.from_residual.result c.from_residual.ensures.1
+          (along_none c.args.round (g.S.Shelf.meaning c.args.shelf.now) (here ∷ cheaper 3 3 4 ∷ [])) c.in_err-hang.ensures.ended;
     }
 
 pub returns : goal.returns
 returns g c =
     let here : Call = dial 4 c.args.device c.args.entries in
-    let w = along_more (here ∷ []) (cheaper 3 3 4 ∷ []) (g.S.Shelf.meaning c.hang.new.shelf) (along_none c.args.round (g.S.Shelf.meaning c.args.shelf.now) (here ∷ cheaper 3 3 4 ∷ [])) c.in-ok-hang.ensures.ended in
+    let w = along_more (here ∷ []) (cheaper 3 3 4 ∷ []) (g.S.Shelf.meaning c.hang.new.shelf) (along_none c.args.round (g.S.Shelf.meaning c.args.shelf.now) (here ∷ cheaper 3 3 4 ∷ [])) c.in_ok-hang.ensures.ended in
     record { ended = along_rest (cheaper 3 3 4 ∷ []) (g.S.Shelf.meaning c.hang-2.new.shelf) c.hang-2.result w c.hang-2.ensures.ended }
