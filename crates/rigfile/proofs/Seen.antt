@@ -1,17 +1,17 @@
 -- The moves of the code, as bytes. Assumes nothing.
-use Rattle.std.proofs.Common.{◌≡◌, ℕ, ◌+◌, ◌*◌, ◌<◌, ◌≤◌, List, [], ◌∷◌, ◌++◌, map, length, Some, None, Option, sym, refl, ap, ◌∙◌, subst, append_assoc, append-nil, arith, length-append}
+use Rattle.std.proofs.Common.{◌≡◌, ℕ, ◌+◌, ◌*◌, ◌≤◌, List, [], ◌∷◌, ◌++◌, map, length, Some, None, Option, sym, refl, ap, ◌∙◌, subst, append_assoc, append-nil, arith}
 use Rattle.std.specs.List.{flat_map, AllByRecursion as All}
 use Rattle.std.proofs.lemmas.List.{length-map}
-use Rattle.model.specs.Limits.{most_conditions, most_effects, most_surcharges, most_tests}
+use Rattle.model.specs.Limits.{most_tests}
 use Rattle.model.specs.Moves as model
 use Rattle.moves.specs.declared.pair.Pair.{Pair}
 use Rattle.moves.specs.declared.entry.Surcharge.{Surcharge}
 use Rattle.moves.specs.declared.entry.Move.{Move}
-use Rattle.moves.specs.Views.{pair_of, pairs_of, surcharge_of, move_of, slot_of}
+use Rattle.moves.specs.Views.{pair_of, pairs_of, surcharge_of, move_of}
 use Rattle.format.specs.Bytes.{two, pair}
-use Rattle.format.specs.Files.{Entry, surcharge, lists, entry, entries}
+use Rattle.format.specs.Files.{Entry, surcharge, lists, entry}
 use Rattle.format.proofs.Sizes.{pairs_long, surcharge_long, entry_long}
-use Rattle.rigfile.specs.Writing.{pair_bytes, surcharge_bytes, slot_bytes, FewTests, Brief, BriefSlot}
+use Rattle.rigfile.specs.Writing.{pair_bytes, surcharge_bytes, slot_bytes, FewTests, Brief}
 
 joined_map : {X Y : Type 0} (f : Y → List ℕ) (g : X → Y) (xs : List X) → flat_map f (map g xs) ≡ flat_map (λ x. f (g x)) xs
 joined_map f g [] = refl

@@ -1,13 +1,12 @@
 -- One more item of a list, as bytes. Assumes nothing.
-use Rattle.std.proofs.Common.{◌≡◌, ℕ, ◌+◌, ◌<◌, ◌≤◌, true, false, List, [], ◌∷◌, ◌++◌, map, length, get_or, take, drop, is_some, Some, None, Option, sym, refl, ap, ◌∙◌, append_assoc, append-nil, zero-add, arith}
+use Rattle.std.proofs.Common.{◌≡◌, ℕ, ◌+◌, ◌<◌, true, false, List, [], ◌∷◌, ◌++◌, map, length, get_or, take, drop, is_some, Some, None, Option, sym, refl, ap, ◌∙◌, append_assoc, append-nil, zero-add, arith}
 use Rattle.std.specs.List.{flat_map}
-use Rattle.std.proofs.lemmas.List.{take_more, at_drop_more, flat_map_more, map_push, length-map, length-take-le, take_all}
+use Rattle.std.proofs.lemmas.List.{take_more, at_drop_more, flat_map_more, map_push, length-map, length-take-le}
 use Rattle.std.proofs.lemmas.Bool.{false≢true}
 use Rattle.model.specs.Contents.{Name}
-use Rattle.model.specs.Moves as model
 use Rattle.moves.specs.declared.entry.Move.{Move}
 use Rattle.moves.specs.Views.{slot_of}
-use Rattle.format.specs.Files.{Entry, entry, entries, devices}
+use Rattle.format.specs.Files.{entry, entries, devices}
 use Rattle.format.proofs.Tables.{entries_first, entries_append}
 use Rattle.rigfile.specs.Writing.{slot_bytes, slots_bytes}
 

@@ -1,5 +1,5 @@
 -- A rig's file from its parts. Assumes nothing.
-use Rattle.std.proofs.Common.{◌≡◌, ℕ, ◌+◌, ◌*◌, ◌≤◌, List, [], ◌∷◌, ◌++◌, map, length, drop, Some, None, Option, sym, refl, ap, ◌∙◌, subst, append_assoc, arith, length-append}
+use Rattle.std.proofs.Common.{◌≡◌, ℕ, ◌+◌, ◌*◌, ◌≤◌, List, ◌++◌, map, length, drop, Some, None, Option, sym, ap, ◌∙◌, subst, append_assoc, arith, length-append}
 use Rattle.std.specs.List.{flat_map, AllByRecursion as All}
 use Rattle.std.proofs.lemmas.List.{length-map}
 use Rattle.std.proofs.ByRecursion.{All-weaker}
@@ -12,7 +12,7 @@ use Rattle.theory.specs.Wellformed.{LawfulSurcharge, LawfulMove, LawfulSlot}
 use Rattle.theory.proofs.Told.{contents_told}
 use Rattle.moves.specs.declared.entry.Move.{Move}
 use Rattle.moves.specs.Views.{slot_of, move_of}
-use Rattle.format.specs.Files.{Listing, Held, Eight, Shaped, header, devices, entry, entries, body, listing, file}
+use Rattle.format.specs.Files.{Held, Eight, header, devices, entry, entries, body, listing, file}
 use Rattle.format.proofs.Sizes.{body_long, devices_long}
 use Rattle.format.proofs.Tables.{entries_few}
 use Rattle.format.proofs.Whole.{shaped, short, as_many_names, few_slots}

@@ -1,8 +1,6 @@
-use Rattle.std.proofs.Common.{◌≡◌, ℕ, ◌+◌, List, length, Some, None, Option, sym, ap, ◌∙◌, subst, arith}
-use Rattle.moves.specs.declared.entry.Move.{Move}
-use Rattle.rigfile.specs.Writing.{Writes, BriefSlot, slot_bytes}
+use Rattle.std.proofs.Common.{ℕ, List, length, sym, ap, subst, arith}
+use Rattle.rigfile.specs.Writing.{Writes, slot_bytes}
 use Rattle.rigfile.proofs.Written.{nothing}
-use Rattle.rigfile.proofs.Seen.{slot_used}
 use Rattle.rigfile.proofs.moves.put_slot.Goals as goal
 
 pub returns-in-None : goal.returns-in-None

@@ -1,4 +1,4 @@
-use Rattle.std.proofs.Common.{◌≡◌, ℕ, ◌+◌, ◌≤◌, List, [], ◌∷◌, ◌++◌, length, sym, ap, ◌∙◌, subst, arith}
+use Rattle.std.proofs.Common.{◌≡◌, ℕ, List, [], ◌∷◌, ◌++◌, length, ap, ◌∙◌, subst, arith}
 use Rattle.std.specs.List.{flat_map}
 use Rattle.moves.specs.Views.{surcharge_of}
 use Rattle.format.specs.Bytes.{two}
@@ -8,13 +8,13 @@ use Rattle.rigfile.proofs.Written.{further}
 use Rattle.rigfile.proofs.Seen.{as_many_pairs, surcharge_made}
 use Rattle.rigfile.proofs.moves.put_surcharge.Goals as goal
 
-pub overflow-cast-tests : goal.overflow-cast-tests
-overflow-cast-tests c = omega (arith, as_many_pairs c.tests-tests.result.now (surcharge_of c.args.surcharge.now).tests c.tests-tests.ensures, c.requires.1)
+pub overflow_cast-tests : goal.overflow_cast-tests
+overflow_cast-tests c = omega (arith, as_many_pairs c.tests-tests.result.now (surcharge_of c.args.surcharge.now).tests c.tests-tests.ensures, c.requires.1)
 
-pub put-pairs-requires : goal.put-pairs-requires
-put-pairs-requires c =
+pub put_pairs-requires : goal.put_pairs-requires
+put_pairs-requires c =
     let l = ap length (surcharge_made (surcharge_of c.args.surcharge.now) c.tests-tests.result.now c.tests-tests.ensures) in
-    omega (arith, l, c.requires.0, c.put-extra.ensures.next, c.put-two-first.ensures.next)
+    omega (arith, l, c.requires.0, c.put-extra.ensures.next, c.put_two-first.ensures.next)
 
 pub returns : goal.returns
 returns c =
@@ -26,8 +26,8 @@ returns c =
     let made : length ts ∷ (two x ++ flat_map pair_bytes ts) ≡ surcharge s = ap (λ (n : ℕ). length ts ∷ (two n ++ flat_map pair_bytes ts)) c.extra.ensures ∙ surcharge_made s ts c.tests-tests.ensures in
     let l = ap length made in
     let e = c.put-extra.ensures.next in
-    let f = c.put-two-first.ensures.next in
-    let g = c.put-pairs.ensures.next in
-    let w = further old c.put-extra.new.buffer c.put-two-first.new.buffer at c.put-extra.result (length ts ∷ []) (two x) e (omega (arith, l, c.requires.0)) c.put-extra.ensures.done c.put-two-first.ensures.done in
-    let v = further old c.put-two-first.new.buffer c.put-pairs.new.buffer at c.put-two-first.result (length ts ∷ two x) (flat_map pair_bytes ts) (omega (arith, e, f)) (omega (arith, l, c.requires.0)) w c.put-pairs.ensures.done in
-    record { next = omega (arith, e, f, g, l); done = subst (λ (u : List ℕ). Writes old at u c.put-pairs.new.buffer) made v }
+    let f = c.put_two-first.ensures.next in
+    let g = c.put_pairs.ensures.next in
+    let w = further old c.put-extra.new.buffer c.put_two-first.new.buffer at c.put-extra.result (length ts ∷ []) (two x) e (omega (arith, l, c.requires.0)) c.put-extra.ensures.done c.put_two-first.ensures.done in
+    let v = further old c.put_two-first.new.buffer c.put_pairs.new.buffer at c.put_two-first.result (length ts ∷ two x) (flat_map pair_bytes ts) (omega (arith, e, f)) (omega (arith, l, c.requires.0)) w c.put_pairs.ensures.done in
+    record { next = omega (arith, e, f, g, l); done = subst (λ (u : List ℕ). Writes old at u c.put_pairs.new.buffer) made v }

@@ -1,4 +1,4 @@
-use Rattle.std.proofs.Common.{◌≡◌, ◌+◌, length, take, drop, sym, ap, subst, arith}
+use Rattle.std.proofs.Common.{◌+◌, length, take, drop, sym, ap, subst, arith}
 use Rattle.std.specs.List.{flat_map}
 use Rattle.std.proofs.lemmas.List.{take_all}
 use Rattle.std.proofs.ByRecursion.{All-get_or}
@@ -10,8 +10,8 @@ use Rattle.rigfile.proofs.moves.put_surcharges.Goals as goal
 pub loop-surcharge-init : goal.loop-surcharge-init
 loop-surcharge-init c = begin c.args.buffer.now c.args.at (flat_map surcharge_bytes c.args.surcharges.now) c.requires.0
 
-pub put-surcharge-to-requires : goal.put-surcharge-to-requires
-put-surcharge-to-requires c =
+pub put_surcharge-to-requires : goal.put_surcharge-to-requires
+put_surcharge-to-requires c =
     let xs = c.args.surcharges.now in
     let i = c.loop-surcharge.surcharge-index in
     let x = c.surcharge-item.result in (
@@ -26,7 +26,7 @@ loop-surcharge-preserved c =
     let i = c.loop-surcharge.surcharge-index in
     let x = c.surcharge-item.result in
     turn (flat_map surcharge_bytes (take i xs)) (surcharge_bytes x) (flat_map surcharge_bytes (drop i xs)) (flat_map surcharge_bytes (take (i + 1) xs)) (flat_map surcharge_bytes (drop (i + 1) xs)) (joined_made surcharge_bytes xs i x x c.loop-surcharge-test.true c.surcharge-item.is) (joined_left surcharge_bytes xs i x x c.loop-surcharge-test.true c.surcharge-item.is)
-    c.args.buffer.now c.loop-surcharge.buffer c.put-surcharge-to.new.buffer c.args.at c.loop-surcharge.to c.put-surcharge-to.result c.put-surcharge-to.ensures.next c.loop-surcharge.auto.buffer (omega arith) c.loop-surcharge.invariant c.put-surcharge-to.ensures.done
+    c.args.buffer.now c.loop-surcharge.buffer c.put_surcharge-to.new.buffer c.args.at c.loop-surcharge.to c.put_surcharge-to.result c.put_surcharge-to.ensures.next c.loop-surcharge.auto.buffer (omega arith) c.loop-surcharge.invariant c.put_surcharge-to.ensures.done
 
 pub returns : goal.returns
 returns c =

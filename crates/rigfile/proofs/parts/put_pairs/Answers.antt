@@ -13,8 +13,8 @@ none = record { device = 0; setting = 0 }
 pub loop-pair-init : goal.loop-pair-init
 loop-pair-init c = begin c.args.buffer.now c.args.at (flat_map pair_bytes c.args.pairs.now) c.requires
 
-pub put-pair-to-requires : goal.put-pair-to-requires
-put-pair-to-requires c =
+pub put_pair-to-requires : goal.put_pair-to-requires
+put_pair-to-requires c =
     let xs = c.args.pairs.now in
     let i = c.loop-pair.pair-index in
     let x = get_or xs i none in
@@ -27,7 +27,7 @@ loop-pair-preserved c =
     let i = c.loop-pair.pair-index in
     let x = get_or xs i none in
     turn (flat_map pair_bytes (take i xs)) (pair_bytes x) (flat_map pair_bytes (drop i xs)) (flat_map pair_bytes (take (i + 1) xs)) (flat_map pair_bytes (drop (i + 1) xs)) (joined_made pair_bytes xs i x none c.loop-pair-test.true refl) (joined_left pair_bytes xs i x none c.loop-pair-test.true refl)
-    c.args.buffer.now c.loop-pair.buffer c.put-pair-to.new.buffer c.args.at c.loop-pair.to c.put-pair-to.result c.put-pair-to.ensures.next c.loop-pair.auto.buffer (omega arith) c.loop-pair.invariant c.put-pair-to.ensures.done
+    c.args.buffer.now c.loop-pair.buffer c.put_pair-to.new.buffer c.args.at c.loop-pair.to c.put_pair-to.result c.put_pair-to.ensures.next c.loop-pair.auto.buffer (omega arith) c.loop-pair.invariant c.put_pair-to.ensures.done
 
 pub returns : goal.returns
 returns c =

@@ -1,4 +1,4 @@
-use Rattle.std.proofs.Common.{◌≡◌, [], refl, rules}
+use Rattle.std.proofs.Common.{[], refl, rules}
 use Rattle.std.proofs.ByRecursion.{All-from_get_or}
 use Rattle.format.specs.Files.{Eight}
 use Rattle.rigfile.proofs.sizes.devices_size.Goals as goal
