@@ -11,6 +11,7 @@ use Rattle.theory.specs.Walks.{Before}
 use Rattle.theory.specs.Tables.{action_in, table_of}
 use Rattle.theory.specs.Performing.{Way}
 use Rattle.theory.specs.Alike.{Alike, WaysAlike, BestAlike}
+use Rattle.theory.specs.Ways.{Best}
 use Rattle.theory.proofs.Greedy.{before_told}
 use Rattle.theory.proofs.Tabling.{table_numbered}
 use Rattle.theory.proofs.Performing.{ways_are_runs}
@@ -52,13 +53,15 @@ before_both (i ∷ is) (j ∷ js) (inr h) (inr k) = λ n. h.0 n ∷ before_both 
 
 pub best_alike : BestAlike
 best_alike c d h is js t u f g =
-    let there = ways_alike c d h is t f.way in
-    let back = ways_alike d c (alike_back c d h) js u g.way in
-    let least : t ≤ u = f.least js u back in
-    let most : u ≤ t = g.least is t there in
+    let ours : Best c is t = f in
+    let theirs : Best d js u = g in
+    let there = ways_alike c d h is t ours.way in
+    let back = ways_alike d c (alike_back c d h) js u theirs.way in
+    let least : t ≤ u = ours.least js u back in
+    let most : u ≤ t = theirs.least is t there in
     let same : t ≡ u = omega arith in
-    let one = (before_told is js).1 (f.first js (subst (Way c js) (sym same) back)) in
-    let two = (before_told js is).1 (g.first is (subst (Way d is) same there)) in
+    let one = (before_told is js).1 (ours.first js (subst (Way c js) (sym same) back)) in
+    let two = (before_told js is).1 (theirs.first is (subst (Way d is) same there)) in
     (before_both is js one two, same)
 
 -- Rounds
