@@ -1,5 +1,5 @@
 -- The answers of joining that make no node. Assumes nothing.
-use Rattle.std.proofs.Common.{◌≡◌, ℕ, ◌+◌, ◌≤◌, min, List, [], ◌∷◌, length, take, drop, Some, None, Option, sym, refl, ap, ◌∙◌, subst, arith}
+use Rattle.std.proofs.Common.{◌≡◌, ℕ, min, List, [], ◌∷◌, length, take, drop, Some, None, Option, sym, refl, ap, ◌∙◌, subst, arith}
 use lib.ListN.{length-map}
 use Rattle.std.specs.List.{flat_map}
 use Rattle.std.proofs.lemmas.List.{drop_all}
@@ -12,7 +12,7 @@ use Rattle.model.specs.Scenes.{Shape}
 use Rattle.model.proofs.Charting.{zipped_comm}
 use Rattle.parts.specs.Shifts.{later}
 use Rattle.store.specs.Stores.{node_at, chart, Fine, Store}
-use Rattle.store.proofs.Canon.{knows, edge_path}
+use Rattle.store.proofs.Canon.{knows}
 use Rattle.build.specs.Builds.{Stands}
 use Rattle.build.proofs.Sides.{moved_fine, from_zero}
 use Rattle.memo.specs.Operations.{entry}

@@ -1,12 +1,11 @@
 -- The steps of joining two edges with times, over plain values. Assumes nothing.
-use Rattle.std.proofs.Common.{◌≡◌, ℕ, zero, suc, ◌+◌, ◌-◌, ◌*◌, ◌<◌, ◌≤◌, true, false, List, [], ◌∷◌, ◌++◌, map, length, get_or, take, drop, set, Some, None, Option, sym, refl, ap, ◌∙◌, subst, arith}
+use Rattle.std.proofs.Common.{◌≡◌, ℕ, ◌+◌, ◌*◌, ◌<◌, ◌≤◌, false, List, length, get_or, drop, set, Some, Option, sym, refl, ap, ◌∙◌, subst}
 use Rattle.table.specs.Tables.{Kept}
 use Rattle.nodes.specs.declared.edge.Edge.{Edge}
 use Rattle.nodes.specs.declared.node.Node.{Node}
 use Rattle.nodes.specs.declared.remembered.Op.{Op}
 use Rattle.nodes.specs.declared.remembered.Operation.TheVariants.{Join}
-use Rattle.nodes.specs.declared.remembered.Remembered.{Remembered}
-use Rattle.model.specs.Charts.{Time, Chart, plus, zipped, late}
+use Rattle.model.specs.Charts.{Chart, plus, zipped, late}
 use Rattle.model.specs.Lists.{In, some}
 use Rattle.model.specs.Parts.{parts}
 use Rattle.model.specs.Scenes.{Shape, size}
@@ -17,7 +16,7 @@ use Rattle.store.specs.Stores.{none_edge, node_at, chart, body, Fine, Store}
 use Rattle.store.specs.Fillings.{Stuck}
 use Rattle.store.proofs.Grows.{chart_kept, fine_kept}
 use Rattle.build.specs.Builds.{raised, piece, Ready, Kids, Grows, Partway, together, Stands}
-use Rattle.build.proofs.Steps.{grows_none, grows_then, grows_alike, ready_after, stuck_wider, partway_grows, partway_stuck, partway_more, partway_kids, partway_all}
+use Rattle.build.proofs.Steps.{grows_then, grows_alike, ready_after, stuck_wider, partway_grows, partway_stuck, partway_more, partway_kids, partway_all}
 use Rattle.build.proofs.Sides.{piece_timely, lower_timely, earlier_timely, moved_fine, from_zero, raise_timely, raise_stands, side_chart, side_long, side_fine, side_piece, side_kid_timely, side_timely}
 use Rattle.memo.specs.Operations.{entry}
 use Rattle.memo.specs.Results.{Right}

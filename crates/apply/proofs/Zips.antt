@@ -1,5 +1,5 @@
 -- Charts joined entry by entry. Assumes nothing.
-use Rattle.std.proofs.Common.{◌≡◌, ℕ, zero, suc, ◌+◌, ◌-◌, ◌≤◌, min, List, [], ◌∷◌, map, length, get_or, take, drop, Some, None, Option, sym, refl, ap, ◌∙◌, subst, arith}
+use Rattle.std.proofs.Common.{◌≡◌, ℕ, zero, suc, ◌≤◌, min, [], ◌∷◌, length, get_or, take, drop, Some, None, sym, refl, ap, ◌∙◌, arith}
 use Rattle.nodes.specs.declared.remembered.Op.{Op}
 use Rattle.nodes.specs.declared.remembered.Op.TheVariants.{Cheaper, Sum}
 use Rattle.model.specs.Charts.{Time, Chart, lesser, plus, zipped}

@@ -1,4 +1,4 @@
-use Rattle.std.proofs.Common.{◌≡◌, ℕ, ◌+◌, ◌<◌, ◌≤◌, false, length, get_or, drop, Some, None, sym, refl, ap, ◌∙◌, subst, arith, rules}
+use Rattle.std.proofs.Common.{◌≡◌, ◌<◌, length, get_or, sym, ap, ◌∙◌, arith, rules}
 use Rattle.model.specs.Charts.{late}
 use Rattle.build.proofs.Steps.{grows_none}
 use Rattle.build.proofs.Sides.{weight_timely}
@@ -8,26 +8,26 @@ use Rattle.apply.proofs.Answering.{answer_left, answer_right, answer_leaf, answe
 use Rattle.apply.proofs.Joining.{Sides, known_timely, known_stands, known_right, raise_left, raise_right, join_ready, kid_joinable, join_grows, join_stuck, join_more, join_kids, join_timely, join_made, join_full, join_inner}
 use Rattle.apply.proofs.join.+join.Goals as goal
 
-pub returns-in-default : goal.returns-in-default
-returns-in-default t c =
+pub returns-in_default : goal.returns-in_default
+returns-in_default t c =
     let nodes = c.args.nodes.now in
     let shape = c.args.settings.now in
     let l = c.args.level in
     record {
       grows = grows_none nodes shape l (goal' c.args.op nodes shape l c.args.a c.args.b) c.requires.ready;
       knows = c.requires.knows;
-      built = answer_left c.args.op nodes shape c.requires.ready.store l c.args.a c.args.b c.skip.result c.in-default.is c.requires.joinable.left c.requires.joinable.right c.skip.ensures;
+      built = answer_left c.args.op nodes shape c.requires.ready.store l c.args.a c.args.b c.skip.result c.in_default.is c.requires.joinable.left c.requires.joinable.right c.skip.ensures;
     }
 
-pub returns-in-default-weight : goal.returns-in-default-weight
-returns-in-default-weight t c =
+pub returns-in_default-weight : goal.returns-in_default-weight
+returns-in_default-weight t c =
     let nodes = c.args.nodes.now in
     let shape = c.args.settings.now in
     let l = c.args.level in
     record {
       grows = grows_none nodes shape l (goal' c.args.op nodes shape l c.args.a c.args.b) c.requires.ready;
       knows = c.requires.knows;
-      built = answer_right c.args.op nodes shape c.requires.ready.store l c.args.a c.args.b c.skip-in-default-weight.result c.in-default-weight.is c.requires.joinable.left c.requires.joinable.right c.skip-in-default-weight.ensures;
+      built = answer_right c.args.op nodes shape c.requires.ready.store l c.args.a c.args.b c.skip-in_default-weight.result c.in_default-weight.is c.requires.joinable.left c.requires.joinable.right c.skip-in_default-weight.ensures;
     }
 
 pub split-weights-requires : goal.split-weights-requires
@@ -59,7 +59,7 @@ returns-then-a-b t c =
     record {
       grows = grows_none nodes shape l (goal' c.args.op nodes shape l c.args.a c.args.b) c.requires.ready;
       knows = c.requires.knows;
-      built = answer_same c.args.op nodes shape l c.args.a c.args.b c.in-Some.wa c.in-Some-weight.wb c.split-weights.result c.if-eq.ensures c.if-a-b.true c.in-Some.is c.in-Some-weight.is c.split-weights.ensures c.requires.joinable.left;
+      built = answer_same c.args.op nodes shape l c.args.a c.args.b c.in-Some.wa c.in-Some-weight.wb c.split-weights.result (search rules) c.if-a-b.true c.in-Some.is c.in-Some-weight.is c.split-weights.ensures c.requires.joinable.left;
     }
 
 pub raise-requires : goal.raise-requires
@@ -91,7 +91,7 @@ raise-d-requires t c =
     let l = c.args.level in
     let lt : l < length shape = search rules in
     let sides : Sides c.args.op nodes shape l c.args.a c.args.b c.in-Some.wa c.in-Some-weight.wb c.split-weights.result = record { ready = c.requires.ready; lt = lt; able = c.requires.joinable; ha = c.in-Some.is; hb = c.in-Some-weight.is; hw = c.split-weights.ensures } in
-    raise_left c.args.op nodes shape l c.args.a c.args.b c.in-Some.wa c.in-Some-weight.wb c.split-weights.result sides c.node-at-left.result c.node-at-right.result c.node-at-left.ensures c.node-at-right.ensures c.loop-i.i c.loop-i-test.true
+    raise_left c.args.op nodes shape l c.args.a c.args.b c.in-Some.wa c.in-Some-weight.wb c.split-weights.result sides c.node_at-left.result c.node_at-right.result c.node_at-left.ensures c.node_at-right.ensures c.loop-i.i c.loop-i-test.true
 
 pub raise-e-requires : goal.raise-e-requires
 raise-e-requires t c =
@@ -100,7 +100,7 @@ raise-e-requires t c =
     let l = c.args.level in
     let lt : l < length shape = search rules in
     let sides : Sides c.args.op nodes shape l c.args.a c.args.b c.in-Some.wa c.in-Some-weight.wb c.split-weights.result = record { ready = c.requires.ready; lt = lt; able = c.requires.joinable; ha = c.in-Some.is; hb = c.in-Some-weight.is; hw = c.split-weights.ensures } in
-    raise_right c.args.op nodes shape l c.args.a c.args.b c.in-Some.wa c.in-Some-weight.wb c.split-weights.result sides c.node-at-left.result c.node-at-right.result c.node-at-left.ensures c.node-at-right.ensures c.loop-i.i c.loop-i-test.true
+    raise_right c.args.op nodes shape l c.args.a c.args.b c.in-Some.wa c.in-Some-weight.wb c.split-weights.result sides c.node_at-left.result c.node_at-right.result c.node_at-left.ensures c.node_at-right.ensures c.loop-i.i c.loop-i-test.true
 
 pub join-requires : goal.join-requires
 join-requires t c =
@@ -109,7 +109,7 @@ join-requires t c =
     let l = c.args.level in
     let lt : l < length shape = search rules in
     let sides : Sides c.args.op nodes shape l c.args.a c.args.b c.in-Some.wa c.in-Some-weight.wb c.split-weights.result = record { ready = c.requires.ready; lt = lt; able = c.requires.joinable; ha = c.in-Some.is; hb = c.in-Some-weight.is; hw = c.split-weights.ensures } in
-    (search rules, (omega arith, (join_ready c.args.op nodes shape l c.args.a c.args.b c.in-Some.wa c.in-Some-weight.wb c.split-weights.result sides c.node-at-left.result c.node-at-right.result c.node-at-left.ensures c.node-at-right.ensures c.loop-i.nodes c.loop-i.i c.loop-i.kids c.loop-i.invariant.0, (c.loop-i.invariant.1, kid_joinable c.args.op nodes shape l c.args.a c.args.b c.in-Some.wa c.in-Some-weight.wb c.split-weights.result sides c.node-at-left.result c.node-at-right.result c.node-at-left.ensures c.node-at-right.ensures c.loop-i.nodes c.loop-i.i c.loop-i.kids c.loop-i.invariant.0 c.raise-d.result c.raise-e.result c.raise-d.ensures c.raise-e.ensures c.loop-i-test.true))))
+    (search rules, (omega arith, (join_ready c.args.op nodes shape l c.args.a c.args.b c.in-Some.wa c.in-Some-weight.wb c.split-weights.result sides c.node_at-left.result c.node_at-right.result c.node_at-left.ensures c.node_at-right.ensures c.loop-i.nodes c.loop-i.i c.loop-i.kids c.loop-i.invariant.0, (c.loop-i.invariant.1, kid_joinable c.args.op nodes shape l c.args.a c.args.b c.in-Some.wa c.in-Some-weight.wb c.split-weights.result sides c.node_at-left.result c.node_at-right.result c.node_at-left.ensures c.node_at-right.ensures c.loop-i.nodes c.loop-i.i c.loop-i.kids c.loop-i.invariant.0 c.raise-d.result c.raise-e.result c.raise-d.ensures c.raise-e.ensures c.loop-i-test.true))))
 
 pub returns-in-None : goal.returns-in-None
 returns-in-None t c =
@@ -120,9 +120,9 @@ returns-in-None t c =
     let sides : Sides c.args.op nodes shape l c.args.a c.args.b c.in-Some.wa c.in-Some-weight.wb c.split-weights.result = record { ready = c.requires.ready; lt = lt; able = c.requires.joinable; ha = c.in-Some.is; hb = c.in-Some-weight.is; hw = c.split-weights.ensures } in
     let got = c.in-None.ensures in
     record {
-      grows = join_grows c.args.op nodes shape l c.args.a c.args.b c.in-Some.wa c.in-Some-weight.wb c.split-weights.result sides c.node-at-left.result c.node-at-right.result c.node-at-left.ensures c.node-at-right.ensures c.loop-i.nodes c.loop-i.i c.loop-i.kids c.loop-i.invariant.0 c.raise-d.result c.raise-e.result c.raise-d.ensures c.raise-e.ensures c.loop-i-test.true c.join.new.nodes got.grows;
+      grows = join_grows c.args.op nodes shape l c.args.a c.args.b c.in-Some.wa c.in-Some-weight.wb c.split-weights.result sides c.node_at-left.result c.node_at-right.result c.node_at-left.ensures c.node_at-right.ensures c.loop-i.nodes c.loop-i.i c.loop-i.kids c.loop-i.invariant.0 c.raise-d.result c.raise-e.result c.raise-d.ensures c.raise-e.ensures c.loop-i-test.true c.join.new.nodes got.grows;
       knows = got.knows;
-      built = join_stuck c.args.op nodes shape l c.args.a c.args.b c.in-Some.wa c.in-Some-weight.wb c.split-weights.result sides c.node-at-left.result c.node-at-right.result c.node-at-left.ensures c.node-at-right.ensures c.loop-i.nodes c.loop-i.i c.loop-i.kids c.loop-i.invariant.0 c.raise-d.result c.raise-e.result c.raise-d.ensures c.raise-e.ensures c.loop-i-test.true c.join.new.nodes got.grows got.built;
+      built = join_stuck c.args.op nodes shape l c.args.a c.args.b c.in-Some.wa c.in-Some-weight.wb c.split-weights.result sides c.node_at-left.result c.node_at-right.result c.node_at-left.ensures c.node_at-right.ensures c.loop-i.nodes c.loop-i.i c.loop-i.kids c.loop-i.invariant.0 c.raise-d.result c.raise-e.result c.raise-d.ensures c.raise-e.ensures c.loop-i-test.true c.join.new.nodes got.grows got.built;
     }
 
 pub loop-i-preserved : goal.loop-i-preserved
@@ -133,7 +133,7 @@ loop-i-preserved t c =
     let lt : l < length shape = search rules in
     let sides : Sides c.args.op nodes shape l c.args.a c.args.b c.in-Some.wa c.in-Some-weight.wb c.split-weights.result = record { ready = c.requires.ready; lt = lt; able = c.requires.joinable; ha = c.in-Some.is; hb = c.in-Some-weight.is; hw = c.split-weights.ensures } in
     let got = c.in-Some-join.ensures in
-    (join_more c.args.op nodes shape l c.args.a c.args.b c.in-Some.wa c.in-Some-weight.wb c.split-weights.result sides c.node-at-left.result c.node-at-right.result c.node-at-left.ensures c.node-at-right.ensures c.loop-i.nodes c.loop-i.i c.loop-i.kids c.loop-i.invariant.0 c.raise-d.result c.raise-e.result c.raise-d.ensures c.raise-e.ensures c.loop-i-test.true c.join.new.nodes got.grows c.in-Some-join.kid got.built, got.knows)
+    (join_more c.args.op nodes shape l c.args.a c.args.b c.in-Some.wa c.in-Some-weight.wb c.split-weights.result sides c.node_at-left.result c.node_at-right.result c.node_at-left.ensures c.node_at-right.ensures c.loop-i.nodes c.loop-i.i c.loop-i.kids c.loop-i.invariant.0 c.raise-d.result c.raise-e.result c.raise-d.ensures c.raise-e.ensures c.loop-i-test.true c.join.new.nodes got.grows c.in-Some-join.kid got.built, got.knows)
 
 pub make-requires : goal.make-requires
 make-requires t c =
@@ -143,7 +143,7 @@ make-requires t c =
     let lt : l < length shape = search rules in
     let sides : Sides c.args.op nodes shape l c.args.a c.args.b c.in-Some.wa c.in-Some-weight.wb c.split-weights.result = record { ready = c.requires.ready; lt = lt; able = c.requires.joinable; ha = c.in-Some.is; hb = c.in-Some-weight.is; hw = c.split-weights.ensures } in
     let all : c.loop-i.i ≡ get_or shape l 0 = omega (arith, c.loop-i-test.false, c.loop-i.auto.i-end) in
-    record { depth = lt; ready = join_ready c.args.op nodes shape l c.args.a c.args.b c.in-Some.wa c.in-Some-weight.wb c.split-weights.result sides c.node-at-left.result c.node-at-right.result c.node-at-left.ensures c.node-at-right.ensures c.loop-i.nodes c.loop-i.i c.loop-i.kids c.loop-i.invariant.0; kids = join_kids c.args.op nodes shape l c.args.a c.args.b c.in-Some.wa c.in-Some-weight.wb c.split-weights.result sides c.node-at-left.result c.node-at-right.result c.node-at-left.ensures c.node-at-right.ensures c.loop-i.nodes c.loop-i.i c.loop-i.kids c.loop-i.invariant.0 all; timely = join_timely c.args.op nodes shape l c.args.a c.args.b c.in-Some.wa c.in-Some-weight.wb c.split-weights.result sides c.node-at-left.result c.node-at-right.result c.node-at-left.ensures c.node-at-right.ensures c.loop-i.nodes c.loop-i.i c.loop-i.kids c.loop-i.invariant.0 all }
+    record { depth = lt; ready = join_ready c.args.op nodes shape l c.args.a c.args.b c.in-Some.wa c.in-Some-weight.wb c.split-weights.result sides c.node_at-left.result c.node_at-right.result c.node_at-left.ensures c.node_at-right.ensures c.loop-i.nodes c.loop-i.i c.loop-i.kids c.loop-i.invariant.0; kids = join_kids c.args.op nodes shape l c.args.a c.args.b c.in-Some.wa c.in-Some-weight.wb c.split-weights.result sides c.node_at-left.result c.node_at-right.result c.node_at-left.ensures c.node_at-right.ensures c.loop-i.nodes c.loop-i.i c.loop-i.kids c.loop-i.invariant.0 all; timely = join_timely c.args.op nodes shape l c.args.a c.args.b c.in-Some.wa c.in-Some-weight.wb c.split-weights.result sides c.node_at-left.result c.node_at-right.result c.node_at-left.ensures c.node_at-right.ensures c.loop-i.nodes c.loop-i.i c.loop-i.kids c.loop-i.invariant.0 all }
 
 pub raise-requires-in-Some-make : goal.raise-requires-in-Some-make
 raise-requires-in-Some-make t c =
@@ -155,7 +155,7 @@ raise-requires-in-Some-make t c =
     let all : c.loop-i.i ≡ get_or shape l 0 = omega (arith, c.loop-i-test.false, c.loop-i.auto.i-end) in
     let new = c.make.new.nodes in
     let got = c.in-Some-make.ensures in
-    known_timely c.args.op nodes shape l c.args.a c.args.b c.in-Some.wa c.in-Some-weight.wb c.split-weights.result sides new got.grows.store c.in-Some-make.made (join_inner c.args.op nodes shape l c.args.a c.args.b c.in-Some.wa c.in-Some-weight.wb c.split-weights.result sides c.node-at-left.result c.node-at-right.result c.node-at-left.ensures c.node-at-right.ensures c.loop-i.nodes c.loop-i.i c.loop-i.kids c.loop-i.invariant.0 all new c.in-Some-make.made got.built)
+    known_timely c.args.op nodes shape l c.args.a c.args.b c.in-Some.wa c.in-Some-weight.wb c.split-weights.result sides new got.grows.store c.in-Some-make.made (join_inner c.args.op nodes shape l c.args.a c.args.b c.in-Some.wa c.in-Some-weight.wb c.split-weights.result sides c.node_at-left.result c.node_at-right.result c.node_at-left.ensures c.node_at-right.ensures c.loop-i.nodes c.loop-i.i c.loop-i.kids c.loop-i.invariant.0 all new c.in-Some-make.made got.built)
 
 pub returns-in-Some-make : goal.returns-in-Some-make
 returns-in-Some-make t c =
@@ -168,8 +168,8 @@ returns-in-Some-make t c =
     let mid = c.loop-i.nodes in
     let new = c.make.new.nodes in
     let got = c.in-Some-make.ensures in
-    let grew = join_made c.args.op nodes shape l c.args.a c.args.b c.in-Some.wa c.in-Some-weight.wb c.split-weights.result sides c.node-at-left.result c.node-at-right.result c.node-at-left.ensures c.node-at-right.ensures c.loop-i.nodes c.loop-i.i c.loop-i.kids c.loop-i.invariant.0 all new got.grows in
-    let st = join_inner c.args.op nodes shape l c.args.a c.args.b c.in-Some.wa c.in-Some-weight.wb c.split-weights.result sides c.node-at-left.result c.node-at-right.result c.node-at-left.ensures c.node-at-right.ensures c.loop-i.nodes c.loop-i.i c.loop-i.kids c.loop-i.invariant.0 all new c.in-Some-make.made got.built in
+    let grew = join_made c.args.op nodes shape l c.args.a c.args.b c.in-Some.wa c.in-Some-weight.wb c.split-weights.result sides c.node_at-left.result c.node_at-right.result c.node_at-left.ensures c.node_at-right.ensures c.loop-i.nodes c.loop-i.i c.loop-i.kids c.loop-i.invariant.0 all new got.grows in
+    let st = join_inner c.args.op nodes shape l c.args.a c.args.b c.in-Some.wa c.in-Some-weight.wb c.split-weights.result sides c.node_at-left.result c.node_at-right.result c.node_at-left.ensures c.node_at-right.ensures c.loop-i.nodes c.loop-i.i c.loop-i.kids c.loop-i.invariant.0 all new c.in-Some-make.made got.built in
     record {
       grows = grew;
       knows = knows_added new shape c.loop-i.memo c.remember.new.memo _ (knows_kept mid new got.grows.kept shape c.loop-i.invariant.0.grows.store c.loop-i.memo c.loop-i.invariant.1) c.remember.ensures.table c.remember.ensures.added (known_right c.args.op nodes shape l c.args.a c.args.b c.in-Some.wa c.in-Some-weight.wb c.split-weights.result sides new grew.kept c.in-Some-make.made st);
@@ -188,7 +188,7 @@ returns-in-None-make t c =
     let new = c.make.new.nodes in
     let got = c.in-None-make.ensures in
     record {
-      grows = join_made c.args.op nodes shape l c.args.a c.args.b c.in-Some.wa c.in-Some-weight.wb c.split-weights.result sides c.node-at-left.result c.node-at-right.result c.node-at-left.ensures c.node-at-right.ensures c.loop-i.nodes c.loop-i.i c.loop-i.kids c.loop-i.invariant.0 all new got.grows;
+      grows = join_made c.args.op nodes shape l c.args.a c.args.b c.in-Some.wa c.in-Some-weight.wb c.split-weights.result sides c.node_at-left.result c.node_at-right.result c.node_at-left.ensures c.node_at-right.ensures c.loop-i.nodes c.loop-i.i c.loop-i.kids c.loop-i.invariant.0 all new got.grows;
       knows = knows_kept mid new got.grows.kept shape c.loop-i.invariant.0.grows.store c.loop-i.memo c.loop-i.invariant.1;
-      built = join_full c.args.op nodes shape l c.args.a c.args.b c.in-Some.wa c.in-Some-weight.wb c.split-weights.result sides c.node-at-left.result c.node-at-right.result c.node-at-left.ensures c.node-at-right.ensures c.loop-i.nodes c.loop-i.i c.loop-i.kids c.loop-i.invariant.0 all new got.built;
+      built = join_full c.args.op nodes shape l c.args.a c.args.b c.in-Some.wa c.in-Some-weight.wb c.split-weights.result sides c.node_at-left.result c.node_at-right.result c.node_at-left.ensures c.node_at-right.ensures c.loop-i.nodes c.loop-i.i c.loop-i.kids c.loop-i.invariant.0 all new got.built;
     }
