@@ -1,5 +1,5 @@
 -- One step down the path of a scene. Assumes nothing.
-use Rattle.std.proofs.Common.{◌≡◌, ℕ, ◌+◌, ◌*◌, ◌<◌, ◌≤◌, true, false, List, [], ◌∷◌, length, get_or, take, drop, Some, None, Option, sym, refl, ap, ◌∙◌, subst, arith}
+use Rattle.std.proofs.Common.{◌≡◌, ℕ, ◌+◌, ◌<◌, false, List, [], ◌∷◌, length, get_or, take, drop, Some, None, Option, sym, refl, ap, ◌∙◌, subst, arith}
 use Rattle.std.specs.List.{flat_map}
 use Rattle.std.proofs.lemmas.List.{drop_more, drop_all}
 use Rattle.nodes.specs.declared.edge.Edge.{Edge}
@@ -10,7 +10,7 @@ use Rattle.model.specs.Scenes.{Shape, Scene, SceneOf, size, rank}
 use Rattle.model.proofs.Ranks.{rank_less, scene_drop, scene_length, setting_less}
 use Rattle.parts.specs.Shifts.{later}
 use Rattle.parts.proofs.Tabulated.{at_piece, getD_later}
-use Rattle.store.specs.Stores.{none_edge, node_at, chart, Fine, Store}
+use Rattle.store.specs.Stores.{none_edge, node_at, chart, Fine}
 use Rattle.build.specs.Builds.{raised, piece, Ready}
 use Rattle.build.proofs.Sides.{side_chart, side_piece, side_fine, side_kid_timely, side_timely}
 

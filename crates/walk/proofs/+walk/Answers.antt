@@ -1,9 +1,9 @@
-use Rattle.std.proofs.Common.{◌≡◌, ℕ, ◌+◌, ◌<◌, ◌≤◌, length, get_or, drop, sym, refl, ap, ◌∙◌, subst, arith, rules}
+use Rattle.std.proofs.Common.{◌<◌, length, drop, ◌∙◌, arith, rules}
 use Rattle.walk.proofs.Paths.{walk_never, walk_end, step_low, step_within, step_raise, step_fine, step_timely, step_value}
 use Rattle.walk.proofs.+walk.Goals as goal
 
-pub returns-in-default : goal.returns-in-default
-returns-in-default t c = record { value = walk_never c.args.nodes.now (drop c.args.level c.args.settings.now) (drop c.args.level c.args.scene.now) c.args.e c.in-default.is }
+pub returns-in_default : goal.returns-in_default
+returns-in_default t c = record { value = walk_never c.args.nodes.now (drop c.args.level c.args.settings.now) (drop c.args.level c.args.scene.now) c.args.e c.in_default.is }
 
 pub returns-then-level-settings : goal.returns-then-level-settings
 returns-then-level-settings t c = record { value = walk_end c.args.nodes.now c.args.settings.now c.args.level (drop c.args.level c.args.scene.now) c.args.e c.in-Some.w c.if-level-settings.true c.in-Some.is }
@@ -11,12 +11,12 @@ returns-then-level-settings t c = record { value = walk_end c.args.nodes.now c.a
 pub bounds-scene-level : goal.bounds-scene-level
 bounds-scene-level t c =
     let lt : c.args.level < length c.args.settings.now = search rules in
-    step_within c.args.nodes.now c.args.settings.now c.args.scene.now c.args.level c.args.e c.in-Some.w c.node-at-node.result c.requires.ready c.requires.scene lt c.requires.fine c.requires.timely c.in-Some.is c.node-at-node.ensures
+    step_within c.args.nodes.now c.args.settings.now c.args.scene.now c.args.level c.args.e c.in-Some.w c.node_at-node.result c.requires.ready c.requires.scene lt c.requires.fine c.requires.timely c.in-Some.is c.node_at-node.ensures
 
 pub raise-requires : goal.raise-requires
 raise-requires t c =
     let lt : c.args.level < length c.args.settings.now = search rules in
-    step_raise c.args.nodes.now c.args.settings.now c.args.scene.now c.args.level c.args.e c.in-Some.w c.node-at-node.result c.requires.ready c.requires.scene lt c.requires.fine c.requires.timely c.in-Some.is c.node-at-node.ensures
+    step_raise c.args.nodes.now c.args.settings.now c.args.scene.now c.args.level c.args.e c.in-Some.w c.node_at-node.result c.requires.ready c.requires.scene lt c.requires.fine c.requires.timely c.in-Some.is c.node_at-node.ensures
 
 pub walk-requires : goal.walk-requires
 walk-requires t c =
@@ -29,8 +29,8 @@ walk-requires t c =
           (
             c.requires.ready,
             (
-              step_fine c.args.nodes.now c.args.settings.now c.args.scene.now c.args.level c.args.e c.in-Some.w c.node-at-node.result c.requires.ready c.requires.scene lt c.requires.fine c.requires.timely c.in-Some.is c.node-at-node.ensures c.raise.result c.raise.ensures,
-              step_timely c.args.nodes.now c.args.settings.now c.args.scene.now c.args.level c.args.e c.in-Some.w c.node-at-node.result c.requires.ready c.requires.scene lt c.requires.fine c.requires.timely c.in-Some.is c.node-at-node.ensures c.raise.result c.raise.ensures,
+              step_fine c.args.nodes.now c.args.settings.now c.args.scene.now c.args.level c.args.e c.in-Some.w c.node_at-node.result c.requires.ready c.requires.scene lt c.requires.fine c.requires.timely c.in-Some.is c.node_at-node.ensures c.raise.result c.raise.ensures,
+              step_timely c.args.nodes.now c.args.settings.now c.args.scene.now c.args.level c.args.e c.in-Some.w c.node_at-node.result c.requires.ready c.requires.scene lt c.requires.fine c.requires.timely c.in-Some.is c.node_at-node.ensures c.raise.result c.raise.ensures,
             ),
           ),
         ),
@@ -40,9 +40,9 @@ walk-requires t c =
 pub returns : goal.returns
 returns t c =
     let lt : c.args.level < length c.args.settings.now = search rules in
-    record { value = c.walk.ensures.value ∙ step_value c.args.nodes.now c.args.settings.now c.args.scene.now c.args.level c.args.e c.in-Some.w c.node-at-node.result c.requires.ready c.requires.scene lt c.requires.fine c.requires.timely c.in-Some.is c.node-at-node.ensures c.raise.result c.raise.ensures }
+    record { value = c.walk.ensures.value ∙ step_value c.args.nodes.now c.args.settings.now c.args.scene.now c.args.level c.args.e c.in-Some.w c.node_at-node.result c.requires.ready c.requires.scene lt c.requires.fine c.requires.timely c.in-Some.is c.node_at-node.ensures c.raise.result c.raise.ensures }
 
 pub bounds-node-scene : goal.bounds-node-scene
 bounds-node-scene t c =
     let lt : c.args.level < length c.args.settings.now = search rules in
-    omega (arith, c.requires.ready.few c.args.level, step_low c.args.nodes.now c.args.settings.now c.args.scene.now c.args.level c.args.e c.in-Some.w c.node-at-node.result c.requires.ready c.requires.scene lt c.requires.fine c.requires.timely c.in-Some.is c.node-at-node.ensures)
+    omega (arith, c.requires.ready.few c.args.level, step_low c.args.nodes.now c.args.settings.now c.args.scene.now c.args.level c.args.e c.in-Some.w c.node_at-node.result c.requires.ready c.requires.scene lt c.requires.fine c.requires.timely c.in-Some.is c.node_at-node.ensures)
