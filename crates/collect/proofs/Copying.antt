@@ -1,12 +1,12 @@
 -- The steps of copying, over plain values. Assumes nothing.
-use Rattle.std.proofs.Common.{◌≡◌, ℕ, zero, suc, ◌+◌, ◌-◌, ◌*◌, ◌<◌, ◌≤◌, true, false, ◌⊎◌, List, [], ◌∷◌, ◌++◌, map, length, get_or, take, drop, set, Some, None, Option, sym, refl, ap, ◌∙◌, subst, inl, inr, arith}
+use Rattle.std.proofs.Common.{◌≡◌, ℕ, zero, suc, ◌+◌, ◌*◌, ◌<◌, false, List, [], ◌∷◌, length, get_or, take, drop, set, Some, None, Option, sym, refl, ap, ◌∙◌, subst, inl, inr, arith}
 use Rattle.std.specs.List.{AllByRecursion as All, flat_map}
 use Rattle.std.proofs.lemmas.Bool.{cases_eq}
 use Rattle.std.proofs.lemmas.List.{drop_more, drop_all, get_or-take, get_or-map, get_or-set_same, get_or-set_other}
 use Rattle.table.specs.Tables.{slot, Kept, Empty}
 use Rattle.nodes.specs.declared.edge.Edge.{Edge}
 use Rattle.nodes.specs.declared.node.Node.{Node}
-use Rattle.model.specs.Charts.{Time, Chart, plus, greater, greatest, late}
+use Rattle.model.specs.Charts.{Time, plus, late}
 use Rattle.model.specs.Lists.{In, some}
 use Rattle.model.specs.Parts.{least, lowered, parts, pieces}
 use Rattle.model.specs.Scenes.{Shape, size}
@@ -21,7 +21,7 @@ use Rattle.build.specs.Builds.{piece, Ready, Kids, Grows, Partway, together, Sta
 use Rattle.build.proofs.Highs.{late_left, late_right}
 use Rattle.build.proofs.Makes.{late_less, highest_never}
 use Rattle.build.proofs.Steps.{getD_in, grows_then, grows_alike, ready_after, stuck_wider, partway_grows, partway_stuck, partway_more, partway_kids, partway_all}
-use Rattle.collect.specs.Copies.{Noted, Copied, Moved}
+use Rattle.collect.specs.Copies.{Noted, Moved}
 
 -- What is late
 

@@ -1,4 +1,4 @@
-use Rattle.std.proofs.Common.{◌≡◌, ℕ, ◌+◌, ◌<◌, ◌≤◌, length, get_or, drop, Some, sym, refl, ap, ◌∙◌, subst, arith, rules}
+use Rattle.std.proofs.Common.{◌≡◌, ◌<◌, length, get_or, drop, sym, refl, arith, rules}
 use Rattle.store.specs.Stores.{chart}
 use Rattle.build.proofs.Steps.{grows_none}
 use Rattle.collect.proofs.Copying.{Side, copy_leaf, kid_fine, kid_timely, copy_ready, copy_grows, copy_stuck, copy_more, copy_kids, copy_timely, copy_made, copy_full, made_body, copy_stands, moved_kept, moved_noted}
@@ -39,8 +39,8 @@ copy-requires t c =
     let l = c.args.level in
     let e = c.args.e in
     let lt : l < length shape = search rules in
-    let x = c.node-at-node.result in
-    let side : Side source shape l e x = record { store = c.requires.store; lt = lt; fine = c.requires.fine; here = c.node-at-node.ensures } in
+    let x = c.node_at-node.result in
+    let side : Side source shape l e x = record { store = c.requires.store; lt = lt; fine = c.requires.fine; here = c.node_at-node.ensures } in
     (search rules, (omega arith, (c.requires.store, (copy_ready source shape l e x side old c.loop-i.nodes c.requires.ready c.loop-i.i c.loop-i.kids c.loop-i.invariant.0, (c.loop-i.invariant.1, (kid_fine source shape l e x side c.loop-i.i c.loop-i-test.true, kid_timely source shape l e x side c.loop-i.i c.loop-i-test.true c.requires.timely))))))
 
 pub returns-in-None : goal.returns-in-None
@@ -51,8 +51,8 @@ returns-in-None t c =
     let l = c.args.level in
     let e = c.args.e in
     let lt : l < length shape = search rules in
-    let x = c.node-at-node.result in
-    let side : Side source shape l e x = record { store = c.requires.store; lt = lt; fine = c.requires.fine; here = c.node-at-node.ensures } in
+    let x = c.node_at-node.result in
+    let side : Side source shape l e x = record { store = c.requires.store; lt = lt; fine = c.requires.fine; here = c.node_at-node.ensures } in
     let got = c.in-None.ensures in
     record {
       grows = copy_grows source shape l e x side old c.loop-i.nodes c.requires.ready c.loop-i.i c.loop-i.kids c.loop-i.invariant.0 c.copy.new.nodes c.loop-i-test.true got.grows;
@@ -68,8 +68,8 @@ loop-i-preserved t c =
     let l = c.args.level in
     let e = c.args.e in
     let lt : l < length shape = search rules in
-    let x = c.node-at-node.result in
-    let side : Side source shape l e x = record { store = c.requires.store; lt = lt; fine = c.requires.fine; here = c.node-at-node.ensures } in
+    let x = c.node_at-node.result in
+    let side : Side source shape l e x = record { store = c.requires.store; lt = lt; fine = c.requires.fine; here = c.node_at-node.ensures } in
     let got = c.in-Some-copy.ensures in
     (copy_more source shape l e x side old c.loop-i.nodes c.requires.ready c.loop-i.i c.loop-i.kids c.loop-i.invariant.0 c.copy.new.nodes c.loop-i-test.true got.grows c.in-Some-copy.kid got.built, got.moved)
 
@@ -81,8 +81,8 @@ make-requires t c =
     let l = c.args.level in
     let e = c.args.e in
     let lt : l < length shape = search rules in
-    let x = c.node-at-node.result in
-    let side : Side source shape l e x = record { store = c.requires.store; lt = lt; fine = c.requires.fine; here = c.node-at-node.ensures } in
+    let x = c.node_at-node.result in
+    let side : Side source shape l e x = record { store = c.requires.store; lt = lt; fine = c.requires.fine; here = c.node_at-node.ensures } in
     let all : c.loop-i.i ≡ get_or shape l 0 = omega (arith, c.loop-i-test.false, c.loop-i.auto.i-end) in
     record { depth = lt; ready = copy_ready source shape l e x side old c.loop-i.nodes c.requires.ready c.loop-i.i c.loop-i.kids c.loop-i.invariant.0; kids = copy_kids source shape l e x side old c.loop-i.nodes c.requires.ready c.loop-i.i c.loop-i.kids c.loop-i.invariant.0 all; timely = copy_timely source shape l e x side old c.loop-i.nodes c.requires.ready c.loop-i.i c.loop-i.kids c.loop-i.invariant.0 all c.requires.timely }
 
@@ -94,8 +94,8 @@ returns-in-Some-make t c =
     let l = c.args.level in
     let e = c.args.e in
     let lt : l < length shape = search rules in
-    let x = c.node-at-node.result in
-    let side : Side source shape l e x = record { store = c.requires.store; lt = lt; fine = c.requires.fine; here = c.node-at-node.ensures } in
+    let x = c.node_at-node.result in
+    let side : Side source shape l e x = record { store = c.requires.store; lt = lt; fine = c.requires.fine; here = c.node_at-node.ensures } in
     let all : c.loop-i.i ≡ get_or shape l 0 = omega (arith, c.loop-i-test.false, c.loop-i.auto.i-end) in
     let mid = c.loop-i.nodes in
     let new = c.make.new.nodes in
@@ -116,8 +116,8 @@ returns-in-None-make t c =
     let l = c.args.level in
     let e = c.args.e in
     let lt : l < length shape = search rules in
-    let x = c.node-at-node.result in
-    let side : Side source shape l e x = record { store = c.requires.store; lt = lt; fine = c.requires.fine; here = c.node-at-node.ensures } in
+    let x = c.node_at-node.result in
+    let side : Side source shape l e x = record { store = c.requires.store; lt = lt; fine = c.requires.fine; here = c.node_at-node.ensures } in
     let all : c.loop-i.i ≡ get_or shape l 0 = omega (arith, c.loop-i-test.false, c.loop-i.auto.i-end) in
     let mid = c.loop-i.nodes in
     let new = c.make.new.nodes in

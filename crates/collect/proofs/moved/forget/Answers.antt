@@ -1,7 +1,6 @@
-use Rattle.std.proofs.Common.{◌≡◌, ℕ, ◌<◌, length, None, inl, inr, arith, below_more}
+use Rattle.std.proofs.Common.{◌<◌, length, None, inl, inr, arith, below_more}
 use Rattle.std.proofs.lemmas.List.{get_or-set_same, get_or-set_other, get_or_past}
 use Rattle.std.proofs.lemmas.Bool.{cases_lt}
-use Rattle.table.specs.Tables.{slot}
 use Rattle.collect.proofs.moved.forget.Goals as goal
 
 pub loop-m-preserved : goal.loop-m-preserved
