@@ -1,9 +1,9 @@
 -- The steps of a sweep, over plain values. Assumes nothing.
-use Rattle.std.proofs.Common.{◌≡◌, ℕ, zero, suc, ◌+◌, ◌-◌, ◌*◌, ◌<◌, ◌≤◌, true, false, ◌⊎◌, List, [], ◌∷◌, ◌++◌, map, length, get_or, take, drop, set, is_some, Some, None, Option, sym, refl, ap, ◌∙◌, subst, inl, inr, arith}
+use Rattle.std.proofs.Common.{◌≡◌, ℕ, ◌+◌, ◌<◌, ◌≤◌, List, [], ◌∷◌, ◌++◌, map, length, get_or, take, drop, set, is_some, Some, None, Option, sym, refl, ap, ◌∙◌, subst, inl, inr, arith}
 use mathlib.Core.List.{map-append}
 use Rattle.std.specs.List.{AllByRecursion as All, flat_map}
 use Rattle.std.proofs.lemmas.Bool.{both_ways}
-use Rattle.std.proofs.lemmas.List.{take_more, take_more_set, take_all, drop-drop, drop-set-lt, get_or-drop, length-map}
+use Rattle.std.proofs.lemmas.List.{take_more, take_more_set, take_all, drop-drop, drop-set-lt, get_or-drop}
 use Rattle.table.specs.Tables.{slot, Kept, Empty}
 use Rattle.nodes.specs.declared.edge.Edge.{Edge}
 use Rattle.nodes.specs.declared.node.Node.{Node}
@@ -11,14 +11,14 @@ use Rattle.model.specs.Charts.{Chart, late}
 use Rattle.model.specs.Lists.{In, some}
 use Rattle.model.specs.Parts.{parts, parts_of_all}
 use Rattle.model.specs.Scenes.{Shape}
-use Rattle.model.specs.Shelves.{Pegs, charts}
+use Rattle.model.specs.Shelves.{charts}
 use Rattle.parts.proofs.Counts.{in_cast}
 use Rattle.parts.proofs.Pieces.{all_map, all_in, each_in}
 use Rattle.store.specs.Stores.{chart, Fine, Store}
 use Rattle.store.specs.Fillings.{Stuck, Owned, name}
 use Rattle.store.proofs.Grows.{fine_kept, chart_kept, name_kept}
 use Rattle.store.proofs.Fits.{roomy, overfull}
-use Rattle.build.specs.Builds.{NodeTable, Ready, Grows, Built, Stands}
+use Rattle.build.specs.Builds.{NodeTable, Ready, Grows, Built}
 use Rattle.build.proofs.Steps.{getD_in, ready_after}
 use Rattle.pegs.specs.Held.{peg_chart, pegs_of, peg_fine, Held, Collected, CopiesPeg, Swept}
 

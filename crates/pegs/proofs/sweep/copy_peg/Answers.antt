@@ -1,4 +1,4 @@
-use Rattle.std.proofs.Common.{◌≡◌, Some, subst, arith, rules}
+use Rattle.std.proofs.Common.{Some, subst, arith}
 use Rattle.collect.proofs.Copying.{chart_below}
 use Rattle.pegs.specs.Held.{peg_fine}
 use Rattle.pegs.proofs.sweep.copy_peg.Goals as goal

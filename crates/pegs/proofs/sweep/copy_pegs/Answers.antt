@@ -1,9 +1,9 @@
-use Rattle.std.proofs.Common.{◌≡◌, arith, rules}
+use Rattle.std.proofs.Common.{arith, rules}
 use Rattle.pegs.proofs.Sweeps.{next_fine, swept_more, swept_all}
 use Rattle.pegs.proofs.sweep.copy_pegs.Goals as goal
 
-pub copy-peg-requires : goal.copy-peg-requires
-copy-peg-requires c = record {
+pub copy_peg-requires : goal.copy_peg-requires
+copy_peg-requires c = record {
   store = c.requires.held.ready.store;
   ready = c.loop-i.invariant.0.ready;
   moved = c.loop-i.invariant.1;
@@ -12,8 +12,8 @@ copy-peg-requires c = record {
 
 pub loop-i-preserved : goal.loop-i-preserved
 loop-i-preserved c = (
-  swept_more c.args.source.now c.loop-i.spare c.copy-peg.new.nodes c.args.settings.now c.args.pegs.now c.loop-i.pegs c.loop-i.i c.requires.held (search rules) c.loop-i.invariant.0 c.copy-peg.result c.copy-peg.ensures.copies,
-  c.copy-peg.ensures.moved,
+  swept_more c.args.source.now c.loop-i.spare c.copy_peg.new.nodes c.args.settings.now c.args.pegs.now c.loop-i.pegs c.loop-i.i c.requires.held (search rules) c.loop-i.invariant.0 c.copy_peg.result c.copy_peg.ensures.copies,
+  c.copy_peg.ensures.moved,
 )
 
 pub returns : goal.returns
