@@ -1,6 +1,6 @@
 -- What an operation on a store builds. Assumes nothing.
 use Rattle.std.specs.Prelude.{◌≡◌, ℕ, ◌+◌, ◌-◌, ◌%◌, ◌<◌, ◌≤◌, List, [], map, length, take, drop, replicate, Some, None, Option, slice_index, slice_index_or}
-use Rattle.std.specs.List.{AllByRecursion as All, range_with_len, flat_map}
+use Rattle.std.specs.List.{AllByRecursion, range_with_len, flat_map}
 use Rattle.table.specs.Tables.{Table, Kept}
 use Rattle.nodes.specs.Hashes.{mixed}
 use Rattle.nodes.specs.declared.edge.Edge.{Edge}
@@ -37,7 +37,7 @@ pub record Ready (nodes : List (Option Node)) (shape : Shape) : Type 0 where
 -- the edges of a node to be made: fine as far as the device has settings, and no more
 pub record Kids (nodes : List (Option Node)) (n : ℕ) (ns : Shape) (l : ℕ) (kids : List Edge) : Type 0 where
   pub eight : length kids ≡ 8
-  pub fine : All (Fine nodes ns (l + 1)) (take n kids)
+  pub fine : AllByRecursion (Fine nodes ns (l + 1)) (take n kids)
   pub rest : drop n kids ≡ replicate (8 - n) none_edge
 
 -- the store has grown by parts of a chart only

@@ -1,6 +1,6 @@
 -- The parts that the nodes of a store stand for, and when there is no room. Assumes nothing.
 use Rattle.std.specs.Prelude.{◌≡◌, ℕ, ◌<◌, ◌≤◌, ◌⊎◌, List, map, length, drop, Some, Option, ◌≢◌}
-use Rattle.std.specs.List.{AllByRecursion as All, flat_map}
+use Rattle.std.specs.List.{AllByRecursion, flat_map}
 use Rattle.table.specs.Tables.{slot, Kept, Occupied}
 use Rattle.nodes.specs.declared.edge.Edge.{Edge}
 use Rattle.nodes.specs.declared.node.Node.{Node}
@@ -38,7 +38,7 @@ Canonical = (nodes : List (Option Node)) (shape : Shape) → Store nodes shape �
 
 -- the charts of a store's edges have no more different parts than the store has slots
 abbrev pub Roomy : Type 0
-Roomy = (nodes : List (Option Node)) (shape : Shape) → Store nodes shape → (edges : List Edge) → All (Fine nodes shape 0) edges → parts_of_all shape (map (chart nodes shape) edges) ≤ length nodes
+Roomy = (nodes : List (Option Node)) (shape : Shape) → Store nodes shape → (edges : List Edge) → AllByRecursion (Fine nodes shape 0) edges → parts_of_all shape (map (chart nodes shape) edges) ≤ length nodes
 
 -- a store of parts of some charts, grown by parts of one more until none was free and one had no slot: there are more different parts than slots
 abbrev pub Overfull : Type 0

@@ -1,6 +1,6 @@
 -- A store of nodes, and the charts that its edges stand for. Assumes nothing.
 use Rattle.std.specs.Prelude.{◌≡◌, ℕ, ◌+◌, ◌-◌, true, List, [], ◌∷◌, length, take, drop, replicate, is_some, Some, None, Option}
-use Rattle.std.specs.List.{AllByRecursion as All, flat_map}
+use Rattle.std.specs.List.{AllByRecursion, flat_map}
 use Rattle.table.specs.Tables.{slot, Apart}
 use Rattle.nodes.specs.declared.edge.Edge.{Edge}
 use Rattle.nodes.specs.declared.node.Node.{Node}
@@ -60,7 +60,7 @@ pub record Formed (nodes : List (Option Node)) (n : ℕ) (ns : Shape) (x : Node)
   pub rest : drop n x.edges ≡ replicate (8 - n) none_edge
   pub low : zeroed (lowest (take n x.edges)) ≡ lowest (take n x.edges)
   pub high : x.most ≡ highest nodes ns (take n x.edges)
-  pub kids : All (Fine nodes ns (x.level + 1)) (take n x.edges)
+  pub kids : AllByRecursion (Fine nodes ns (x.level + 1)) (take n x.edges)
 
 abbrev pub Proper : List (Option Node) → Shape → Node → Type 0
 Proper nodes [] x = ⊥
