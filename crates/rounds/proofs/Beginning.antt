@@ -1,10 +1,10 @@
 -- Round 0, and the rounds after it. Assumes nothing.
-use Rattle.std.proofs.Common.{◌≡◌, ℕ, List, ◌++◌, length, get_or, IsErrAnd, Some, None, Ok, Err, Result, sym, refl, ap, ◌∙◌, subst}
+use Rattle.std.proofs.Common.{◌≡◌, ℕ, List, ◌++◌, length, get_or, IsErrAnd, Some, None, Ok, Err, Result, sym, ap, ◌∙◌, subst}
 use Rattle.model.specs.Limits.{peg_count}
 use Rattle.model.specs.Contents.{Contents}
 use Rattle.model.specs.Calls.{Lawful}
 use Rattle.model.specs.Shelves.{Meaning}
-use Rattle.rule.specs.Steps.{Step, marked, round_0}
+use Rattle.rule.specs.Steps.{marked, round_0}
 use Rattle.rule.specs.Rule.{chart_after, rule}
 use Rattle.steps.specs.declared.halt.Halt.{Halt}
 use Rattle.steps.specs.declared.fault.PlanFault.{PlanFault}

@@ -1,14 +1,13 @@
 -- Rounds one after another, until one makes no scene cheaper. Assumes nothing.
-use Rattle.std.proofs.Common.{◌≡◌, ℕ, zero, suc, ◌+◌, ◌-◌, ◌^◌, ◌<◌, ◌≤◌, Bool, true, false, ◌≢◌, ◌⊎◌, List, [], ◌∷◌, ◌++◌, map, length, get_or, is_err, IsErrAnd, Some, None, Ok, Err, Option, Result, sym, refl, ap, ◌∙◌, subst, inl, inr, ⊎_elim, arith}
+use Rattle.std.proofs.Common.{◌≡◌, ℕ, zero, suc, ◌+◌, ◌-◌, ◌^◌, ◌<◌, ◌≤◌, Bool, true, false, ◌≢◌, ◌⊎◌, List, [], ◌∷◌, ◌++◌, length, get_or, is_err, IsErrAnd, Some, None, Ok, Err, Option, Result, sym, refl, ap, ◌∙◌, subst, inl, inr, ⊎_elim, arith}
 use Rattle.std.specs.List.{range_with_len, flat_map}
 use Rattle.std.proofs.lemmas.List.{append_assoc, append-nil}
-use Rattle.model.specs.Limits.{peg_count, most_settings, most_devices}
-use Rattle.model.specs.Scenes.{size}
-use Rattle.model.specs.Charts.{Chart, same_chart}
+use Rattle.model.specs.Limits.{peg_count}
+use Rattle.model.specs.Charts.{same_chart}
 use Rattle.model.specs.Moves as model
 use Rattle.model.specs.Contents.{Contents}
 use Rattle.model.specs.Calls.{Lawful}
-use Rattle.model.specs.Shelves.{Meaning, Sound, on, bare}
+use Rattle.model.specs.Shelves.{Meaning, on, bare}
 use Rattle.theory.proofs.Told.{contents_told}
 use Rattle.rule.specs.Steps.{Step, marked, copy, round_0, round, changing}
 use Rattle.rule.specs.Rule.{chart_after, count, rule}
@@ -20,7 +19,7 @@ use Rattle.steps.specs.declared.fault.PlanFault.TheVariants.{NoRoom}
 use Rattle.steps.specs.Faults.{OfHalt, OfFault}
 use Rattle.steps.specs.Ends.{ends, leaves, Ended, Made}
 use Rattle.rounds.specs.Rounds.{rounds_after, Counted}
-use Rattle.steps.proofs.Steps.{Onward, onward_none, more, halt, all_made, rest_made}
+use Rattle.steps.proofs.Steps.{Onward, onward_none, more, all_made}
 use Rattle.rounds.proofs.OfRounds.{made_broken, made_passed}
 use Rattle.rounds.proofs.Leaving.{leaves_shape, hung_peg, round_leaves, copy_leaves}
 

@@ -1,16 +1,15 @@
 -- What steps leave on the pegs. Assumes nothing.
-use Rattle.std.proofs.Common.{◌≡◌, ℕ, suc, ◌+◌, ◌≤◌, true, false, List, [], ◌∷◌, ◌++◌, map, length, get_or, set, Some, None, Ok, Err, Option, Result, sym, refl, ap, ◌∙◌, subst, arith}
+use Rattle.std.proofs.Common.{◌≡◌, ℕ, suc, ◌+◌, ◌≤◌, false, List, [], ◌∷◌, map, length, get_or, set, Some, None, Ok, Err, Result, sym, refl, ap, ◌∙◌, arith}
 use lib.ListN.{length-map}
 use Rattle.std.proofs.lemmas.List.{append-nil}
 use Rattle.std.proofs.lemmas.Bool.Decides.{nat_tests}
 use Rattle.model.specs.Limits.{peg_count, most_slots, outside}
 use Rattle.model.specs.Refusals.{left_by}
-use Rattle.model.specs.Scenes.{Shape}
 use Rattle.model.specs.Charts.{Chart, lesser, zipped, at}
 use Rattle.model.specs.Contents.{Contents}
 use Rattle.model.specs.Calls.{Lawful, open_checks}
 use Rattle.model.specs.Masks.{wanted}
-use Rattle.model.specs.Shelves.{Meaning, Pegs, Call, does, done, after, with_pegs, on, bare}
+use Rattle.model.specs.Shelves.{Meaning, Pegs, does, done, with_pegs, on, bare}
 use Rattle.theory.specs.Iteration.{relax}
 use Rattle.theory.specs.Tables.{table_of}
 use Rattle.theory.proofs.Told.{contents_told, no_refusal}

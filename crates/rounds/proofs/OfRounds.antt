@@ -1,5 +1,5 @@
 -- The calls of a round, as the code makes them. Assumes nothing.
-use Rattle.std.proofs.Common.{◌≡◌, ℕ, ◌+◌, ◌<◌, ◌≤◌, List, [], ◌∷◌, ◌++◌, map, length, get_or, drop, IsErrAnd, Some, None, Ok, Err, Option, Result, sym, refl, ap, ◌∙◌, subst, arith}
+use Rattle.std.proofs.Common.{◌≡◌, ℕ, ◌+◌, ◌<◌, ◌≤◌, List, [], ◌∷◌, ◌++◌, map, length, get_or, drop, IsErrAnd, Some, None, Ok, Err, Option, Result, sym, subst, arith}
 use Rattle.std.proofs.lemmas.List.{drop_more, drop_all}
 use Rattle.model.specs.Charts.{Time}
 use Rattle.model.specs.Shelves.{Meaning, Call, dial, sum}
@@ -10,8 +10,8 @@ use Rattle.steps.specs.declared.halt.Halt.{Halt}
 use Rattle.steps.specs.declared.fault.PlanFault.{PlanFault}
 use Rattle.steps.specs.declared.fault.PlanFault.TheVariants.{NoRoom}
 use Rattle.steps.specs.Faults.{Stop, OfHalt, OfFault}
-use Rattle.steps.specs.Ends.{Ended, Hung, Made}
-use Rattle.steps.proofs.Steps.{Onward, halt, Along, along_none, along_as, along_next}
+use Rattle.steps.specs.Ends.{Ended, Made}
+use Rattle.steps.proofs.Steps.{Onward, halt, Along, along_none, along_next}
 use Rattle.steps.proofs.OfMoves.{turned}
 
 -- Faults

@@ -1,5 +1,5 @@
-use Rattle.std.proofs.Common.{◌+◌, List, map, drop, Some}
-use Rattle.rule.specs.Steps.{Step, marked, of_slot, by_moves}
+use Rattle.std.proofs.Common.{◌+◌, map, drop, Some}
+use Rattle.rule.specs.Steps.{marked, of_slot, by_moves}
 use Rattle.moves.specs.Views.{slot_of}
 use Rattle.steps.specs.Faults.{OfHalt, OfFault}
 use Rattle.steps.proofs.Steps.{onward_none, more, halt, all_made}
@@ -15,8 +15,8 @@ returns-in-Err g c =
     let i = c.loop-number.number in
     let x = c.index-slots-number.result in
     record {
-      made = halt (Unit {0}) (OfHalt (Some i)) OfFault (marked c.args.round (Some i) (of_slot (slot_of x))) (by_moves c.args.round (i + 1) (map slot_of (drop (i + 1) xs))) (g.S.Shelf.meaning c.lowered.new.shelf) c.in-Err.halt c.in-move.result
-          (fault_of_halt c.in-Err.halt (Some i) c.in-move.result c.in-move.ensures)
+      made = halt (Unit {0}) (OfHalt (Some i)) OfFault (marked c.args.round (Some i) (of_slot (slot_of x))) (by_moves c.args.round (i + 1) (map slot_of (drop (i + 1) xs))) (g.S.Shelf.meaning c.lowered.new.shelf) c.in-Err.halt c.in_move.result
+          (fault_of_halt c.in-Err.halt (Some i) c.in_move.result c.in_move.ensures)
           (next_slot c.args.round xs i x c.loop-number-test.true c.index-slots-number.is c.loop-number.invariant) (c.in-Err.ensures.ended (Some i));
     }
 
@@ -26,7 +26,7 @@ loop-number-preserved g c =
     let i = c.loop-number.number in
     let x = c.index-slots-number.result in
     more {X = Unit {0}} (OfHalt (Some i)) (marked c.args.round (Some i) (of_slot (slot_of x))) (by_moves c.args.round (i + 1) (map slot_of (drop (i + 1) xs))) (g.S.Shelf.meaning c.lowered.new.shelf) tt
-    (next_slot c.args.round xs i x c.loop-number-test.true c.index-slots-number.is c.loop-number.invariant) (c.in-default.ensures.ended (Some i))
+    (next_slot c.args.round xs i x c.loop-number-test.true c.index-slots-number.is c.loop-number.invariant) (c.in_default.ensures.ended (Some i))
 
 pub returns : goal.returns
 returns g c = record { made = all_made (last_slot c.args.round c.args.slots.now c.loop-number.number c.loop-number-test.false c.loop-number.invariant) }
