@@ -1,5 +1,5 @@
 -- The steps of putting a pair, over plain values. Assumes nothing.
-use Rattle.std.proofs.Common.{◌≡◌, ℕ, zero, suc, ◌+◌, ◌-◌, ◌*◌, ◌<◌, ◌≤◌, true, false, List, [], ◌∷◌, map, length, get_or, take, drop, set, Some, None, Option, sym, refl, ap, ◌∙◌, subst, arith, length-drop}
+use Rattle.std.proofs.Common.{◌≡◌, ℕ, zero, suc, ◌+◌, ◌-◌, ◌*◌, ◌<◌, ◌≤◌, false, List, [], ◌∷◌, length, get_or, take, drop, set, Some, None, Option, sym, refl, ap, ◌∙◌, subst, arith, length-drop}
 use lib.ListN.{length-map}
 use Rattle.std.specs.List.{range_with_len, flat_map}
 use Rattle.std.proofs.lemmas.List.{drop_more, get_or-drop}
@@ -7,7 +7,6 @@ use Rattle.table.specs.Tables.{Kept}
 use Rattle.nodes.specs.declared.edge.Edge.{Edge}
 use Rattle.nodes.specs.declared.node.Node.{Node}
 use Rattle.nodes.specs.declared.remembered.Operation.TheVariants.{Put}
-use Rattle.nodes.specs.declared.remembered.Remembered.{Remembered}
 use Rattle.model.specs.Charts.{Time, Chart, plus, put_chart, greatest, late}
 use Rattle.model.specs.Lists.{In, some}
 use Rattle.model.specs.Parts.{parts, pieces}
@@ -17,14 +16,14 @@ use Rattle.model.proofs.Lateness.{late_tells, latest, legal_under}
 use Rattle.parts.specs.Shifts.{later}
 use Rattle.parts.proofs.Pieces.{parts_later}
 use Rattle.parts.proofs.Tabulated.{put_here, put_below, put_later, put_never}
-use Rattle.store.specs.Stores.{none_edge, node_at, chart, body, Fine, Store}
+use Rattle.store.specs.Stores.{none_edge, node_at, chart, Fine, Store}
 use Rattle.store.specs.Fillings.{Stuck}
 use Rattle.store.proofs.Canon.{knows}
 use Rattle.store.proofs.Grows.{chart_kept, fine_kept}
 use Rattle.build.specs.Builds.{raised, piece, spread_chart, Ready, Kids, Grows, Partway, together, Stands}
-use Rattle.build.proofs.Steps.{grows_none, grows_then, grows_alike, ready_after, stuck_wider, partway_grows, partway_stuck, partway_more, partway_kids, partway_all}
+use Rattle.build.proofs.Steps.{grows_then, grows_alike, ready_after, stuck_wider, partway_grows, partway_stuck, partway_more, partway_kids, partway_all}
 use Rattle.build.proofs.Spreads.{piece_at, made_long}
-use Rattle.build.proofs.Sides.{piece_timely, earlier_timely, moved_fine, from_zero, raise_timely, raise_stands, side_chart, side_long, side_fine, side_piece, side_kid_timely, side_timely}
+use Rattle.build.proofs.Sides.{piece_timely, earlier_timely, moved_fine, from_zero, raise_timely, raise_stands, side_chart, side_fine, side_piece, side_kid_timely, side_timely}
 use Rattle.memo.specs.Results.{Right}
 use Rattle.puts.specs.Puts.{goal}
 
