@@ -1,20 +1,18 @@
 -- The walk along a plan, as the code takes it. Assumes nothing.
-use Rattle.std.proofs.Common.{◌≡◌, ℕ, zero, suc, ◌+◌, ◌-◌, ◌<◌, ◌≤◌, ◌⊎◌, List, [], ◌∷◌, ◌++◌, map, length, get_or, set, Some, None, Option, sym, refl, ap, ◌∙◌, subst, inl, inr, ⊎_elim, add-one, arith, below_more}
+use Rattle.std.proofs.Common.{◌≡◌, ℕ, zero, suc, ◌+◌, ◌<◌, ◌≤◌, ◌⊎◌, List, [], ◌∷◌, ◌++◌, map, length, get_or, set, Some, None, Option, sym, refl, ap, ◌∙◌, subst, inl, inr, ⊎_elim, arith, below_more}
 use Rattle.std.specs.List.{AllByRecursion as All}
 use Rattle.std.proofs.lemmas.List.{append_assoc, append-nil}
 use Rattle.lists.specs.Shorts.{listed}
-use Rattle.model.specs.Scenes.{Scene, SceneOf}
-use Rattle.model.specs.Charts.{Time}
+use Rattle.model.specs.Scenes.{SceneOf}
 use Rattle.model.specs.Masks.{wanted}
 use Rattle.model.specs.Moves as model
 use Rattle.model.specs.Contents.{Contents}
 use Rattle.model.specs.Calls.{Lawful}
 use Rattle.model.specs.Shelves.{Meaning}
-use Rattle.theory.specs.Actions.{Action, Table, numbered}
+use Rattle.theory.specs.Actions.{Action, numbered}
 use Rattle.theory.specs.Iteration.{through}
 use Rattle.theory.specs.Tables.{action_in, table_of}
 use Rattle.theory.specs.Walks.{Greedy, walk}
-use Rattle.theory.specs.Ways.{Best}
 use Rattle.theory.specs.Wellformed.{LawfulSlot}
 use Rattle.theory.proofs.Best.{walks_best}
 use Rattle.theory.proofs.Greedy.{walk_found}

@@ -1,12 +1,12 @@
 -- What is found, as a whole. Assumes nothing.
-use Rattle.std.proofs.Common.{◌≡◌, ℕ, zero, suc, ◌+◌, ◌<◌, ◌≤◌, Bool, true, false, ◌≢◌, ◌⊎◌, ◌↔◌, List, [], ◌∷◌, ◌++◌, length, drop, Some, None, Ok, Err, Option, Result, sym, refl, ap, ◌∙◌, subst, inl, inr, arith}
-use Rattle.model.specs.Contents.{Contents, slot}
-use Rattle.model.specs.Shelves.{Meaning, overfills}
+use Rattle.std.proofs.Common.{◌≡◌, ℕ, ◌≤◌, Bool, true, false, List, [], ◌∷◌, ◌++◌, length, drop, Some, None, Ok, Err, Option, Result, sym, refl, ap, ◌∙◌, subst, inl, inr, arith}
+use Rattle.model.specs.Contents.{Contents}
+use Rattle.model.specs.Shelves.{Meaning}
 use Rattle.theory.specs.Alike.{Alike}
 use Rattle.theory.specs.Ways.{Best}
 use Rattle.theory.proofs.Alikes.{best_alike}
 use Rattle.rule.specs.Steps.{Step}
-use Rattle.rule.specs.Running.{after_steps, Fits, First}
+use Rattle.rule.specs.Running.{Fits, First}
 use Rattle.rule.specs.Rule.{count, rule}
 use Rattle.shelf.specs.declared.fault.ShelfFault.{ShelfFault}
 use Rattle.shelf.specs.Faults as shelf
@@ -17,7 +17,7 @@ use Rattle.steps.specs.declared.fault.PlanFault.{PlanFault}
 use Rattle.steps.specs.declared.fault.PlanFault.TheVariants.{ShapesDiffer, NoRoom, SheetShort}
 use Rattle.steps.specs.Faults.{step_of}
 use Rattle.planner.specs.Walking.{written, Walked}
-use Rattle.planner.specs.Plans.{cleared, NoWay, Filled, ShortFor, Fills, Found, refusal, Planned}
+use Rattle.planner.specs.Plans.{cleared, Filled, ShortFor, Fills, Found, Planned}
 
 pub alike_self : (c : Contents) → Alike c c
 alike_self c = record { moves = λ k. refl; same_scene = refl; same_masks = refl }

@@ -1,14 +1,14 @@
 -- The whole rule on a shelf: only "no room" can stop it, and what it leaves. Assumes nothing.
-use Rattle.std.proofs.Common.{◌≡◌, ℕ, zero, suc, ◌+◌, ◌-◌, ◌<◌, ◌≤◌, Bool, true, false, cond, List, [], ◌∷◌, ◌++◌, length, get_or, drop, set, replicate, IsErrAnd, Some, None, Ok, Err, Option, Result, sym, refl, ap, ◌∙◌, subst, arith}
+use Rattle.std.proofs.Common.{◌≡◌, ℕ, zero, suc, ◌+◌, ◌<◌, Bool, true, false, cond, List, [], ◌∷◌, ◌++◌, length, get_or, drop, set, replicate, IsErrAnd, Some, None, Ok, Err, Option, Result, sym, refl, ap, ◌∙◌, subst, arith}
 use Rattle.model.specs.Limits.{peg_count}
 use Rattle.model.specs.Refusals.{left_by}
 use Rattle.model.specs.Charts.{Chart, at}
 use Rattle.model.specs.Contents.{Contents}
 use Rattle.model.specs.Calls.{Lawful}
-use Rattle.model.specs.Shelves.{Meaning, Pegs, does, done, target, with_pegs, wiped, overfills, on, bare}
+use Rattle.model.specs.Shelves.{Meaning, Pegs, does, done, target, with_pegs, wiped, overfills}
 use Rattle.theory.specs.Ways.{RightFor}
 use Rattle.rule.specs.Steps.{Step, calls}
-use Rattle.rule.specs.Running.{ran, after_steps, first_overfilling, Fits, First, Told, OnlyRoomIn}
+use Rattle.rule.specs.Running.{ran, first_overfilling, Fits, First, Told, OnlyRoomIn}
 use Rattle.rule.specs.Rule.{chart_after, count, rule}
 use Rattle.rule.proofs.Prefixes.{after_one, overfilling_told}
 use Rattle.rule.proofs.Refusing.{rule_unrefused}
@@ -16,9 +16,9 @@ use Rattle.rule.proofs.Whole.{Five, five, rule_right}
 use Rattle.planner.specs.declared.answer.Plan.{Plan}
 use Rattle.steps.specs.declared.fault.PlanFault.{PlanFault}
 use Rattle.steps.specs.declared.fault.PlanFault.TheVariants.{ShapesDiffer, NoRoom, SheetShort}
-use Rattle.steps.specs.Faults.{Stop, OfFault, step_of}
+use Rattle.steps.specs.Faults.{Stop, OfFault}
 use Rattle.steps.specs.Ends.{stopped, ends, leaves, Made}
-use Rattle.planner.specs.Walking.{first_peg, Ready}
+use Rattle.planner.specs.Walking.{Ready}
 use Rattle.planner.specs.Plans.{work_pegs, cleared, Found}
 use Rattle.steps.proofs.Steps.{err_is_not_ok}
 use Rattle.rounds.proofs.Leaving.{leaves_ran, leaves_shape, hung_peg}

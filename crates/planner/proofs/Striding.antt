@@ -1,23 +1,20 @@
 -- Where a move leads, and whether it loses no time. Assumes nothing.
-use Rattle.std.proofs.Common.{◌≡◌, ℕ, zero, suc, ◌+◌, ◌-◌, ◌<◌, ◌≤◌, Bool, true, false, cond, not, eqb, leb, ◌⊎◌, List, [], ◌∷◌, ◌++◌, map, length, get_or, Some, None, Ok, Err, Option, Result, sym, refl, ap, ◌∙◌, subst, inl, inr, ⊎_elim, arith}
-use Rattle.std.specs.List.{AllByRecursion as All}
+use Rattle.std.proofs.Common.{◌≡◌, ℕ, ◌+◌, ◌-◌, ◌<◌, ◌≤◌, Bool, true, false, cond, not, eqb, leb, List, [], ◌∷◌, length, Some, None, Ok, sym, refl, ap, ◌∙◌, subst, arith}
 use Rattle.std.proofs.lemmas.Bool.{lt-leb}
 use Rattle.std.proofs.lemmas.Bool.Decides.{nat_tests}
 use Rattle.lists.specs.Shorts.{listed}
 use Rattle.model.specs.Lists.{some_two}
-use Rattle.model.specs.Refusals.{answer, refuse}
 use Rattle.model.specs.Scenes.{Shape, Scene, SceneOf}
-use Rattle.model.specs.Charts.{Time, at, plus}
+use Rattle.model.specs.Charts.{Time, at}
 use Rattle.model.specs.Moves as model
 use Rattle.model.specs.Moves.{all_hold, applied, time}
 use Rattle.model.specs.Contents.{Contents}
 use Rattle.model.specs.Shelves.{Meaning, reads, bare, on}
 use Rattle.model.proofs.Ranks.{scene_length}
-use Rattle.theory.specs.Actions.{Action, Table, numbered, LawfulAction}
 use Rattle.theory.specs.Iteration.{through, later}
-use Rattle.theory.specs.Tables.{action_of, action_in, table_of}
+use Rattle.theory.specs.Tables.{action_of}
 use Rattle.theory.specs.Wellformed.{LawfulMove}
-use Rattle.theory.proofs.Tabling.{lawful_action, table_numbered}
+use Rattle.theory.proofs.Tabling.{lawful_action}
 use Rattle.planner.specs.declared.point.Point.{Point}
 use Rattle.planner.specs.Walking.{first_peg, Ready, Stands, Leads, Led}
 

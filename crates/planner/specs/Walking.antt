@@ -1,5 +1,5 @@
 -- The walk along a plan: places on it, and what is written of it. Assumes nothing.
-use Rattle.std.specs.Prelude.{◌≡◌, ℕ, ◌+◌, ◌<◌, false, List, [], ◌∷◌, length, Some, None, Option, ◌≢◌}
+use Rattle.std.specs.Prelude.{◌≡◌, ℕ, ◌<◌, false, List, [], ◌∷◌, length, Some, None, Option, ◌≢◌}
 use Rattle.lists.specs.Shorts.{listed}
 use Rattle.model.specs.Scenes.{Scene, SceneOf}
 use Rattle.model.specs.Charts.{Time, at}

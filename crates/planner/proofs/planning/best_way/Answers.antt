@@ -1,4 +1,4 @@
-use Rattle.std.proofs.Common.{refl, arith}
+use Rattle.std.proofs.Common.{refl}
 use Rattle.rig.specs.Rigs.{contents}
 use Rattle.planner.proofs.Outcomes.{counted_first}
 use Rattle.planner.proofs.planning.best_way.Goals as goal

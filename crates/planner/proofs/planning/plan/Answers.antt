@@ -1,4 +1,4 @@
-use Rattle.std.proofs.Common.{◌≡◌, sym, refl, ap, ◌∙◌, subst}
+use Rattle.std.proofs.Common.{sym, refl, ap, ◌∙◌, subst}
 use Rattle.rig.specs.Rigs.{contents}
 use Rattle.planner.specs.Plans.{cleared, Found}
 use Rattle.planner.proofs.Outcomes.{planned}

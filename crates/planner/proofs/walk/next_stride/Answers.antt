@@ -1,4 +1,4 @@
-use Rattle.std.proofs.Common.{◌<◌, length, arith}
+use Rattle.std.proofs.Common.{arith}
 use Rattle.theory.specs.Tables.{action_in}
 use Rattle.rig.specs.Rigs.{contents}
 use Rattle.moves.specs.Views.{slot_of}
@@ -19,8 +19,8 @@ led-requires g c =
       lawful = lawful_seen rig xs c.slots-slots.ensures c.requires.ready.lawful c.loop-number.number c.index-slots-number.result (seen_length slot_of xs rig.slots c.slots-slots.ensures) c.loop-number-test.true c.index-slots-number.is;
     }
 
-pub overflow-cast-result : goal.overflow-cast-result
-overflow-cast-result g c =
+pub overflow_cast-result : goal.overflow_cast-result
+overflow_cast-result g c =
     let rig = contents c.args.rig.now in
     omega (arith, c.loop-number-test.true, seen_length slot_of c.slots-slots.result.now rig.slots c.slots-slots.ensures, few_slots rig c.requires.ready.lawful)
 
@@ -38,7 +38,7 @@ loop-number-preserved g c =
     let rig = contents c.args.rig.now in
     let x = c.index-slots-number.result in
     none_more rig (g.S.Shelf.meaning c.args.shelf.now) c.args.point.now c.loop-number.number (action_in (slot_of x))
-    (numbered_seen rig c.slots-slots.result.now c.slots-slots.ensures c.loop-number.number x c.loop-number-test.true c.index-slots-number.is) c.loop-number.invariant c.in-default.ensures.led
+    (numbered_seen rig c.slots-slots.result.now c.slots-slots.ensures c.loop-number.number x c.loop-number-test.true c.index-slots-number.is) c.loop-number.invariant c.in_default.ensures.led
 
 pub unreachable-requires : goal.unreachable-requires
 unreachable-requires g c =

@@ -1,4 +1,4 @@
-use Rattle.std.proofs.Common.{sym, ◌∙◌}
+use Rattle.std.proofs.Common.{◌∙◌}
 use Rattle.shelf.specs.Faults.{number}
 use Rattle.steps.proofs.Steps.{err_is_not_ok}
 use Rattle.planner.proofs.Striding.{reads_time}

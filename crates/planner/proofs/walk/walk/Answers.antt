@@ -1,4 +1,4 @@
-use Rattle.std.proofs.Common.{sym, arith}
+use Rattle.std.proofs.Common.{arith}
 use Rattle.rig.specs.Rigs.{contents}
 use Rattle.planner.proofs.OfWalks.{way_begun, way_on, way_ended}
 use Rattle.planner.proofs.walk.walk.Goals as goal
@@ -7,19 +7,19 @@ pub loop-point-init : goal.loop-point-init
 loop-point-init g c =
     way_begun (contents c.args.rig.now) (g.S.Shelf.meaning c.args.shelf.now) c.requires.ready c.args.time c.args.sheet.now c.beginning-point.result c.beginning-point.ensures.scene c.beginning-point.ensures.left c.requires.timed
 
-pub next-stride-stride-requires : goal.next-stride-stride-requires
-next-stride-stride-requires g c = record { ready = c.requires.ready; stands = c.loop-point.invariant.stands; far = c.loop-point-test.true }
+pub next_stride-stride-requires : goal.next_stride-stride-requires
+next_stride-stride-requires g c = record { ready = c.requires.ready; stands = c.loop-point.invariant.stands; far = c.loop-point-test.true }
 
-pub overflow-add-moves : goal.overflow-add-moves
-overflow-add-moves g c = omega (arith, c.loop-point.invariant.bound, c.loop-point-test.true, c.ranges.time.fits)
+pub overflow_add-moves : goal.overflow_add-moves
+overflow_add-moves g c = omega (arith, c.loop-point.invariant.bound, c.loop-point-test.true, c.ranges.time.fits)
 
 pub loop-point-smaller : goal.loop-point-smaller
-loop-point-smaller g c = c.next-stride-stride.ensures.strides.leads.less
+loop-point-smaller g c = c.next_stride-stride.ensures.strides.leads.less
 
 pub loop-point-preserved : goal.loop-point-preserved
 loop-point-preserved g c =
-    way_on (contents c.args.rig.now) (g.S.Shelf.meaning c.args.shelf.now) c.requires.ready c.args.time c.args.sheet.now c.loop-point.point c.loop-point.moves c.loop-point.sheet c.note.new.sheet c.next-stride-stride.result
-    c.loop-point.invariant c.next-stride-stride.ensures.strides c.note.ensures
+    way_on (contents c.args.rig.now) (g.S.Shelf.meaning c.args.shelf.now) c.requires.ready c.args.time c.args.sheet.now c.loop-point.point c.loop-point.moves c.loop-point.sheet c.note.new.sheet c.next_stride-stride.result
+    c.loop-point.invariant c.next_stride-stride.ensures.strides c.note.ensures
 
 pub returns : goal.returns
 returns g c =
