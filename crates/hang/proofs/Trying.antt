@@ -1,23 +1,21 @@
 -- The steps of an attempt to hang a chart, over plain values. Assumes nothing.
-use Rattle.std.proofs.Common.{◌≡◌, ℕ, zero, suc, ◌+◌, ◌-◌, ◌<◌, ◌≤◌, Bool, true, false, not, ◌⊎◌, List, [], ◌∷◌, map, length, get_or, take, drop, set, is_some, Some, None, Option, sym, refl, ap, ◌∙◌, subst, inl, inr, arith}
+use Rattle.std.proofs.Common.{◌≡◌, ℕ, zero, suc, ◌-◌, ◌<◌, ◌≤◌, Bool, true, false, not, List, [], ◌∷◌, map, length, get_or, set, is_some, Some, None, Option, sym, refl, ap, ◌∙◌, subst, inl, arith}
 use Rattle.std.specs.List.{AllByRecursion as All, flat_map}
-use Rattle.std.proofs.lemmas.Bool.{both_ways, cases_lt}
-use Rattle.std.proofs.lemmas.List.{get_or-map, get_or_past, length-map}
-use Rattle.table.specs.Tables.{Kept}
+use Rattle.std.proofs.lemmas.Bool.{both_ways}
 use Rattle.nodes.specs.declared.edge.Edge.{Edge}
 use Rattle.nodes.specs.declared.node.Node.{Node}
 use Rattle.nodes.specs.declared.remembered.Op.{Op}
 use Rattle.model.specs.Charts.{Time, Chart, zipped, dialled, put_chart, late}
-use Rattle.model.specs.Lists.{In, some}
+use Rattle.model.specs.Lists.{some}
 use Rattle.model.specs.Parts.{parts, parts_of_all}
 use Rattle.model.specs.Scenes.{Shape}
 use Rattle.model.specs.Shelves.{Pegs, on, bare, charts, chart_of, diagram_fill}
-use Rattle.parts.proofs.Pieces.{all_in, in_right}
-use Rattle.store.specs.Stores.{chart, Fine}
+use Rattle.parts.proofs.Pieces.{in_right}
+use Rattle.store.specs.Stores.{chart}
 use Rattle.store.specs.Fillings.{Stuck, Owned, name}
 use Rattle.store.proofs.Fits.{roomy, overfull}
-use Rattle.build.specs.Builds.{Grows, Built, Stands}
-use Rattle.build.proofs.Steps.{getD_in, ready_after}
+use Rattle.build.specs.Builds.{Grows, Stands}
+use Rattle.build.proofs.Steps.{ready_after}
 use Rattle.memo.specs.Operations.{entry}
 use Rattle.apply.specs.Joins.{goal, Joinable}
 use Rattle.pegs.specs.Held.{peg_chart, pegs_of, peg_fine, Held}

@@ -1,7 +1,6 @@
 -- What is to be hung on a peg, when it may be, and what comes of it. Assumes nothing.
 use Rattle.std.specs.Prelude.{◌≡◌, ℕ, ◌<◌, ◌≤◌, Bool, true, false, List, length, take, Some, Option, slice_index, slice_set}
 use Rattle.nodes.specs.declared.node.Node.{Node}
-use Rattle.nodes.specs.declared.remembered.Op.{Op}
 use Rattle.nodes.specs.declared.remembered.Op.TheVariants.{Cheaper, Sum}
 use Rattle.model.specs.Charts.{Chart, zipped, dialled, put_chart, late}
 use Rattle.model.specs.Lists.{some}

@@ -1,4 +1,4 @@
-use Rattle.std.proofs.Common.{◌≡◌, sym, refl, ap, ◌∙◌, subst}
+use Rattle.std.proofs.Common.{sym, ap, ◌∙◌, subst}
 use Rattle.model.specs.Charts.{Chart}
 use Rattle.build.specs.Builds.{Grows, Built}
 use Rattle.memo.proofs.Keeps.{knows_kept}

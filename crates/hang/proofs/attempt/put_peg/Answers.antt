@@ -1,11 +1,11 @@
-use Rattle.std.proofs.Common.{◌≡◌, sym, ap, subst, arith}
-use Rattle.model.specs.Charts.{Chart, put_chart}
+use Rattle.std.proofs.Common.{sym, subst, arith}
+use Rattle.model.specs.Charts.{Chart}
 use Rattle.build.specs.Builds.{Grows, Built}
 use Rattle.hang.proofs.Trying.{carries, peg_held, put_is}
 use Rattle.hang.proofs.attempt.put_peg.Goals as goal
 
-pub returns-in-default : goal.returns-in-default
-returns-in-default c = absurd (carries c.args.nodes.now c.args.settings.now c.args.pegs.now c.args.a c.requires.allowed.0 (sym c.in-default.ensures))
+pub returns-in_default : goal.returns-in_default
+returns-in_default c = absurd (carries c.args.nodes.now c.args.settings.now c.args.pegs.now c.args.a c.requires.allowed.0 (sym c.in_default.ensures))
 
 pub put-requires : goal.put-requires
 put-requires c =

@@ -1,4 +1,3 @@
-use Rattle.std.proofs.Common.{◌≡◌}
 use Rattle.pegs.specs.Held.{pegs_of}
 use Rattle.hang.specs.Tasks.{made}
 use Rattle.hang.proofs.Trying.{still_held, still_same, try_full, try_held, try_same, try_room, made_timely}

@@ -9,11 +9,11 @@ use Rattle.hang.proofs.retry.collect.Goals as goal
 pub returns : goal.returns
 returns c =
     let old = c.args.nodes.now in
-    let new = c.copy-from-slice.new.self in
+    let new = c.copy_from_slice.new.self in
     let shape = c.args.settings.now in
     let pegs = c.sweep.new.pegs in
     let swept = c.sweep.ensures in
-    let is : new ≡ c.sweep.new.spare = c.copy-from-slice.ensures.after in
+    let is : new ≡ c.sweep.new.spare = c.copy_from_slice.ensures.after in
     record {
       held = subst (λ (n : List (Option Node)). Held n shape pegs) (sym is) swept.held;
       knows = knows_none new shape c.clear.new.slots c.clear.ensures.table c.clear.ensures.empty;

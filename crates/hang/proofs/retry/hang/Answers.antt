@@ -1,8 +1,8 @@
-use Rattle.std.proofs.Common.{◌≡◌, length, sym, refl, ap, ◌∙◌, subst, arith, rules}
+use Rattle.std.proofs.Common.{◌≡◌, length, ◌∙◌, subst}
 use Rattle.model.specs.Shelves.{Pegs, charts}
 use Rattle.store.specs.Fillings.{Owned}
 use Rattle.pegs.specs.Held.{pegs_of}
-use Rattle.hang.specs.Tasks.{made, Told, Tried}
+use Rattle.hang.specs.Tasks.{made, Tried}
 use Rattle.hang.proofs.Trying.{told_from}
 use Rattle.hang.proofs.retry.hang.Goals as goal
 
@@ -11,13 +11,13 @@ returns c =
     let shape = c.args.settings.now in
     let first = pegs_of c.args.nodes.now shape c.args.pegs.now in
     let mid = c.collect.new.nodes in
-    let after = pegs_of c.try-to-hang-2.new.nodes shape c.try-to-hang-2.new.pegs in
-    let q : pegs_of c.try-to-hang.new.nodes shape c.try-to-hang.new.pegs ≡ first = c.if-try-to-hang.ensures.tried.1 in
+    let after = pegs_of c.try_to_hang-2.new.nodes shape c.try_to_hang-2.new.pegs in
+    let q : pegs_of c.try_to_hang.new.nodes shape c.try_to_hang.new.pegs ≡ first = c.if-try_to_hang.ensures.tried.1 in
     let p : pegs_of mid shape c.collect.new.pegs ≡ first = c.collect.ensures.same ∙ q in
     let owned : Owned mid shape (charts first) = subst (λ (ps : Pegs). Owned mid shape (charts ps)) q c.collect.ensures.owned in
-    let tried : Tried mid shape first after (made shape first c.args.task) c.args.target c.try-to-hang-2.result = subst (λ (ps : Pegs). Tried mid shape ps after (made shape ps c.args.task) c.args.target c.try-to-hang-2.result) p c.try-to-hang-2.ensures.tried in
+    let tried : Tried mid shape first after (made shape first c.args.task) c.args.target c.try_to_hang-2.result = subst (λ (ps : Pegs). Tried mid shape ps after (made shape ps c.args.task) c.args.target c.try_to_hang-2.result) p c.try_to_hang-2.ensures.tried in
     record {
-      held = c.try-to-hang-2.ensures.held;
-      knows = c.try-to-hang-2.ensures.knows;
-      told = told_from mid shape first after (made shape first c.args.task) c.args.target (length c.args.nodes.now) c.try-to-hang-2.result (c.collect.auto.nodes ∙ c.try-to-hang.auto.nodes) owned tried;
+      held = c.try_to_hang-2.ensures.held;
+      knows = c.try_to_hang-2.ensures.knows;
+      told = told_from mid shape first after (made shape first c.args.task) c.args.target (length c.args.nodes.now) c.try_to_hang-2.result (c.collect.auto.nodes ∙ c.try_to_hang.auto.nodes) owned tried;
     }
