@@ -1,6 +1,6 @@
 -- The steps of copying, over plain values. Assumes nothing.
 use Rattle.std.proofs.Common.{◌≡◌, ℕ, zero, suc, ◌+◌, ◌*◌, ◌<◌, false, List, [], ◌∷◌, length, get_or, take, drop, set, Some, None, Option, sym, refl, ap, ◌∙◌, subst, inl, inr, arith}
-use Rattle.std.specs.List.{AllByRecursion as All, flat_map}
+use Rattle.std.specs.List.{AllByRecursion, flat_map}
 use Rattle.std.proofs.lemmas.Bool.{cases_eq}
 use Rattle.std.proofs.lemmas.List.{drop_more, drop_all, get_or-take, get_or-map, get_or-set_same, get_or-set_other}
 use Rattle.table.specs.Tables.{slot, Kept, Empty}
@@ -69,8 +69,8 @@ module _ (source : List (Option Node)) (shape : Shape) (l : ℕ) (e : Edge) (x :
   formed : Formed source (get_or shape l 0) (drop (l + 1) shape) x
   formed = subst (Formed source (get_or shape l 0) (drop (l + 1) shape)) (sym side.here) (led source shape side.store l (get_or shape l 0) (drop (l + 1) shape) e (drop_more shape l 0 side.lt) leads)
 
-  all_kids : All (Fine source (drop (l + 1) shape) (l + 1)) (take (get_or shape l 0) x.edges)
-  all_kids = subst (λ y. All (Fine source (drop (l + 1) shape) (l + 1)) (take (get_or shape l 0) y.edges)) (sym side.here) (kids_of source shape side.store l (get_or shape l 0) (drop (l + 1) shape) e (drop_more shape l 0 side.lt) leads)
+  all_kids : AllByRecursion (Fine source (drop (l + 1) shape) (l + 1)) (take (get_or shape l 0) x.edges)
+  all_kids = subst (λ y. AllByRecursion (Fine source (drop (l + 1) shape) (l + 1)) (take (get_or shape l 0) y.edges)) (sym side.here) (kids_of source shape side.store l (get_or shape l 0) (drop (l + 1) shape) e (drop_more shape l 0 side.lt) leads)
 
   body_is : body source (drop l shape) x ≡ flat_map (chart source (drop (l + 1) shape)) (take (get_or shape l 0) x.edges)
   body_is = ap (λ t. body source t x) (drop_more shape l 0 side.lt)

@@ -1,6 +1,6 @@
 -- Surcharges, moves and devices can be told from what follows them. Assumes nothing.
 use Rattle.std.proofs.Common.{◌≡◌, ℕ, List, [], ◌∷◌, ◌++◌, length, sym, refl, ap, ◌∙◌, append_assoc, arith}
-use Rattle.std.specs.List.{flat_map, AllByRecursion as All}
+use Rattle.std.specs.List.{flat_map, AllByRecursion}
 use Rattle.model.specs.Moves.{Move}
 use Rattle.model.specs.Contents.{Name}
 use Rattle.format.specs.Bytes.{two, pair, Prefix}
@@ -37,7 +37,7 @@ entry_prefix x y r s e =
     (λ i. record { number = a i; move = record { conditions = q.0 i; effects = u.0 i; base = p.0 i; surcharges = v.0 i } }, v.1)
 
 -- as many devices, each with a name of eight bytes
-pub cut_devices : (ns ms : List ℕ) (xs ys : List Name) (r s : List ℕ) → length ns ≡ length ms → length xs ≡ length ns → length ys ≡ length ms → All Eight xs → All Eight ys → devices ns xs ++ r ≡ devices ms ys ++ s → (ns ≡ ms) × (xs ≡ ys) × (r ≡ s)
+pub cut_devices : (ns ms : List ℕ) (xs ys : List Name) (r s : List ℕ) → length ns ≡ length ms → length xs ≡ length ns → length ys ≡ length ms → AllByRecursion Eight xs → AllByRecursion Eight ys → devices ns xs ++ r ≡ devices ms ys ++ s → (ns ≡ ms) × (xs ≡ ys) × (r ≡ s)
 cut_devices [] [] [] [] r s n a b f g e = (refl, refl, e)
 cut_devices [] [] (x ∷ xs) ys r s n a b f g e = absurd (omega arith)
 cut_devices [] [] [] (y ∷ ys) r s n a b f g e = absurd (omega arith)

@@ -1,6 +1,6 @@
 -- How long the parts of a file are. Assumes nothing.
 use Rattle.std.proofs.Common.{◌≡◌, ℕ, ◌+◌, ◌*◌, ◌≤◌, List, [], ◌∷◌, ◌++◌, length, Some, None, Option, refl, arith, length-append}
-use Rattle.std.specs.List.{flat_map, AllByRecursion as All}
+use Rattle.std.specs.List.{flat_map, AllByRecursion}
 use Rattle.model.specs.Scenes.{Shape}
 use Rattle.model.specs.Moves.{Pair, Surcharge, Move}
 use Rattle.model.specs.Contents.{Name}
@@ -26,7 +26,7 @@ lists_long m =
 pub entry_long : (e : Entry) → length (entry e) ≡ 6 + 2 * length e.move.conditions + 2 * length e.move.effects + length (flat_map surcharge e.move.surcharges)
 entry_long e = let h = lists_long e.move in omega (arith, h)
 
-pub devices_long : (ns : List ℕ) (names : List Name) → length names ≡ length ns → All Eight names → length (devices ns names) ≡ 9 * length ns
+pub devices_long : (ns : List ℕ) (names : List Name) → length names ≡ length ns → AllByRecursion Eight names → length (devices ns names) ≡ 9 * length ns
 devices_long [] names l e = refl
 devices_long (n ∷ ns) [] l e = absurd (omega arith)
 devices_long (n ∷ ns) (name ∷ names) l e =
@@ -35,7 +35,7 @@ devices_long (n ∷ ns) (name ∷ names) l e =
     let b = e.0 in
     omega (arith, h, a, b)
 
-pub body_long : (l : Listing) → length l.names ≡ length l.settings → All Eight l.names → length l.scene ≡ length l.settings → length l.masks ≡ length l.settings → length (body l) ≡ 11 * length l.settings + length (flat_map entry l.moves)
+pub body_long : (l : Listing) → length l.names ≡ length l.settings → AllByRecursion Eight l.names → length l.scene ≡ length l.settings → length l.masks ≡ length l.settings → length (body l) ≡ 11 * length l.settings + length (flat_map entry l.moves)
 body_long l n e s m =
     let d = devices_long l.settings l.names n e in
     let a = length-append (devices l.settings l.names) (l.scene ++ (l.masks ++ flat_map entry l.moves)) in
@@ -45,7 +45,7 @@ body_long l n e s m =
 
 -- Limits
 
-surcharges_few : (ns : Shape) (xs : List Surcharge) → All (LawfulSurcharge ns) xs → length (flat_map surcharge xs) ≤ 9 * length xs
+surcharges_few : (ns : Shape) (xs : List Surcharge) → AllByRecursion (LawfulSurcharge ns) xs → length (flat_map surcharge xs) ≤ 9 * length xs
 surcharges_few ns [] h = omega arith
 surcharges_few ns (x ∷ xs) h =
     let a = length-append (surcharge x) (flat_map surcharge xs) in
@@ -60,7 +60,7 @@ entry_few ns e h =
     let b = surcharges_few ns e.move.surcharges h.surcharged in
     omega (arith, a, b, h.few_conditions, h.few_effects, h.few_surcharges)
 
-pub entries_short : (ns : Shape) (n : ℕ) (slots : List (Option Move)) → All (LawfulSlot ns) slots → length (flat_map entry (entries n slots)) ≤ 126 * length slots
+pub entries_short : (ns : Shape) (n : ℕ) (slots : List (Option Move)) → AllByRecursion (LawfulSlot ns) slots → length (flat_map entry (entries n slots)) ≤ 126 * length slots
 entries_short ns n [] h = omega arith
 entries_short ns n (None ∷ slots) h = let a = entries_short ns (n + 1) slots h.1 in omega (arith, a)
 entries_short ns n (Some m ∷ slots) h =

@@ -1,6 +1,6 @@
 -- What a rig's file lists is taken as that rig. Assumes nothing.
 use Rattle.std.proofs.Common.{◌≡◌, ℕ, ◌+◌, ◌*◌, Bool, true, false, cond, leb, List, [], ◌∷◌, ◌++◌, length, get_or, replicate, is_some, Some, None, Ok, Err, Option, Result, sym, refl, ap, ◌∙◌, subst, append_assoc, arith, length-append}
-use Rattle.std.specs.List.{AllByRecursion as All}
+use Rattle.std.specs.List.{AllByRecursion}
 use Rattle.std.proofs.lemmas.List.{length_push, set_at}
 use Rattle.std.proofs.ByRecursion.{All-from_get_or}
 use Rattle.std.proofs.lemmas.Bool.{false≢true, lt-leb}
@@ -37,7 +37,7 @@ added_there c done rest n m l h =
     ∙ passed (move_checks c.settings m) tt h
 
 -- the moves of the slots behind those that are filled already
-added_behind : (c : Contents) (n byte : ℕ) (done slots : List (Option Move)) → length done ≡ n → All (λ o. lawful_slot c.settings o ≡ true) slots → adding (with_slots c (done ++ replicate (length slots) None)) byte (entries n slots) ≡ Ok (with_slots c (done ++ slots))
+added_behind : (c : Contents) (n byte : ℕ) (done slots : List (Option Move)) → length done ≡ n → AllByRecursion (λ o. lawful_slot c.settings o ≡ true) slots → adding (with_slots c (done ++ replicate (length slots) None)) byte (entries n slots) ≡ Ok (with_slots c (done ++ slots))
 added_behind c n byte done [] l h = refl
 added_behind c n byte done (None ∷ slots) l h =
     ap (λ (os : List (Option Move)). adding (with_slots c os) byte (entries (n + 1) slots)) (sym (append_assoc done (None ∷ []) (replicate (length slots) None)))

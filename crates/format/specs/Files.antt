@@ -1,6 +1,6 @@
 -- The rig file: what it lists, its bytes, and the file of a rig's contents. Assumes nothing.
 use Rattle.std.specs.Prelude.{◌≡◌, ℕ, ◌+◌, ◌*◌, ◌≤◌, List, [], ◌∷◌, ◌++◌, length, Some, None, Option, slice_set}
-use Rattle.std.specs.List.{flat_map, AllByRecursion as All}
+use Rattle.std.specs.List.{flat_map, AllByRecursion}
 use Rattle.model.specs.Moves.{Surcharge, Move}
 use Rattle.model.specs.Contents.{Contents, Name}
 use Rattle.model.specs.Calls.{Lawful}
@@ -62,7 +62,7 @@ Eight name = length name ≡ 8
 -- a name of eight bytes, a present setting and a mask for each device, and moves by rising number
 pub record Shaped (l : Listing) : Type 0 where
   pub names : length l.names ≡ length l.settings
-  pub eight : All Eight l.names
+  pub eight : AllByRecursion Eight l.names
   pub scene : length l.scene ≡ length l.settings
   pub masks : length l.masks ≡ length l.settings
   pub moves : Rising 0 l.moves
@@ -88,4 +88,4 @@ file c = bytes (listing c)
 -- contents of a rig: lawful, and with names of eight bytes
 pub record Held (c : Contents) : Type 0 where
   pub lawful : Lawful c
-  pub eight : All Eight c.names
+  pub eight : AllByRecursion Eight c.names

@@ -1,6 +1,6 @@
 -- What so many bytes can be. Assumes nothing.
 use Rattle.std.proofs.Common.{◌≡◌, ℕ, zero, suc, ◌-◌, ◌*◌, ◌≤◌, List, [], ◌∷◌, ◌++◌, length, take, drop, sym, refl, ap, ◌∙◌, arith, take-append-drop}
-use Rattle.std.specs.List.{flat_map, AllByRecursion as All}
+use Rattle.std.specs.List.{flat_map, AllByRecursion}
 use Rattle.std.proofs.lemmas.List.{take_all, length-take-le, length-drop}
 use Rattle.model.specs.Moves.{Pair}
 use Rattle.model.specs.Contents.{Name}
@@ -31,7 +31,7 @@ pub record Devices (n : ℕ) (xs : List ℕ) : Type 0 where
   pub names : List Name
   pub many : length settings ≡ n
   pub named : length names ≡ n
-  pub eight : All Eight names
+  pub eight : AllByRecursion Eight names
   pub made : xs ≡ devices settings names
 
 pub devised : (n : ℕ) (xs : List ℕ) → length xs ≡ 9 * n → Devices n xs

@@ -1,7 +1,7 @@
 -- The steps of a sweep, over plain values. Assumes nothing.
 use Rattle.std.proofs.Common.{◌≡◌, ℕ, ◌+◌, ◌<◌, ◌≤◌, List, [], ◌∷◌, ◌++◌, map, length, get_or, take, drop, set, is_some, Some, None, Option, sym, refl, ap, ◌∙◌, subst, inl, inr, arith}
 use mathlib.Core.List.{map-append}
-use Rattle.std.specs.List.{AllByRecursion as All, flat_map}
+use Rattle.std.specs.List.{AllByRecursion, flat_map}
 use Rattle.std.proofs.lemmas.Bool.{both_ways}
 use Rattle.std.proofs.lemmas.List.{take_more, take_more_set, take_all, drop-drop, drop-set-lt, get_or-drop}
 use Rattle.table.specs.Tables.{slot, Kept, Empty}
@@ -35,7 +35,7 @@ charts_on nodes shape [] = refl
 charts_on nodes shape (None ∷ ps) = charts_on nodes shape ps
 charts_on nodes shape (Some e ∷ ps) = ap (λ t. chart nodes shape e ∷ t) (charts_on nodes shape ps)
 
-pub fine_on : (nodes : List (Option Node)) (shape : Shape) (pegs : List (Option Edge)) → All (peg_fine nodes shape) pegs → All (Fine nodes shape 0) (edges_on pegs)
+pub fine_on : (nodes : List (Option Node)) (shape : Shape) (pegs : List (Option Edge)) → AllByRecursion (peg_fine nodes shape) pegs → AllByRecursion (Fine nodes shape 0) (edges_on pegs)
 fine_on nodes shape [] a = tt
 fine_on nodes shape (None ∷ ps) a = fine_on nodes shape ps a.1
 fine_on nodes shape (Some e ∷ ps) a = (a.0.0, fine_on nodes shape ps a.1)
@@ -50,7 +50,7 @@ chart_in nodes shape (Some d ∷ ps) e (inr i) = inr (chart_in nodes shape ps e 
 pub held_room : (nodes : List (Option Node)) (shape : Shape) (pegs : List (Option Edge)) → Held nodes shape pegs → parts_of_all shape (charts (pegs_of nodes shape pegs)) ≤ length nodes
 held_room nodes shape pegs held = subst (λ cs. parts_of_all shape cs ≤ length nodes) (sym (charts_on nodes shape pegs)) (roomy nodes shape held.ready.store (edges_on pegs) (fine_on nodes shape pegs held.fine))
 
-map_all : {A B : Type 0} (f g : A → B) (xs : List A) → All (λ x. f x ≡ g x) xs → map f xs ≡ map g xs
+map_all : {A B : Type 0} (f g : A → B) (xs : List A) → AllByRecursion (λ x. f x ≡ g x) xs → map f xs ≡ map g xs
 map_all f g [] a = refl
 map_all f g (x ∷ xs) a = let p = a.0 in let q = map_all f g xs a.1 in λ i. p i ∷ q i
 
@@ -61,10 +61,10 @@ module _ (old new : List (Option Node)) (shape : Shape) (store : Store old shape
       let q = chart_kept old new kept shape store shape 0 e refl f.0 in
       ((fine_kept old new kept shape 0 e f.0, ap (some late) q ∙ f.1), ap {B = Option Chart} Some q)
 
-  pub pegs_fine_kept : (pegs : List (Option Edge)) → All (peg_fine old shape) pegs → All (peg_fine new shape) pegs
+  pub pegs_fine_kept : (pegs : List (Option Edge)) → AllByRecursion (peg_fine old shape) pegs → AllByRecursion (peg_fine new shape) pegs
   pegs_fine_kept pegs a = all_map (peg_fine old shape) (peg_fine new shape) pegs (λ p f. (peg_kept p f).0) a
 
-  pub pegs_kept : (pegs : List (Option Edge)) → All (peg_fine old shape) pegs → pegs_of new shape pegs ≡ pegs_of old shape pegs
+  pub pegs_kept : (pegs : List (Option Edge)) → AllByRecursion (peg_fine old shape) pegs → pegs_of new shape pegs ≡ pegs_of old shape pegs
   pegs_kept pegs a = map_all (peg_chart new shape) (peg_chart old shape) pegs (all_map (peg_fine old shape) (λ p. peg_chart new shape p ≡ peg_chart old shape p) pegs (λ p f. (peg_kept p f).1) a)
 
 -- The sweep
@@ -80,7 +80,7 @@ swept_none source spare shape pegs held size table empty = record {
   long = refl;
 }
 
-all_append : {A : Type 0} (P : A → Type 0) (xs : List A) (y : A) → All P xs → P y → All P (xs ++ y ∷ [])
+all_append : {A : Type 0} (P : A → Type 0) (xs : List A) (y : A) → AllByRecursion P xs → P y → AllByRecursion P (xs ++ y ∷ [])
 all_append P [] y a p = (p, tt)
 all_append P (x ∷ xs) y a p = (a.0, all_append P xs y a.1 p)
 
@@ -100,7 +100,7 @@ module _ (source spare new : List (Option Node)) (shape : Shape) (old pegs : Lis
     ready = ready;
     size = size ∙ w.size;
     owned = owned;
-    fine = subst (All (peg_fine new shape)) (sym (take_more_set pegs i r il)) (all_append (peg_fine new shape) (take i pegs) r (pegs_fine_kept spare new shape w.ready.store kept (take i pegs) w.fine) fine);
+    fine = subst (AllByRecursion (peg_fine new shape)) (sym (take_more_set pegs i r il)) (all_append (peg_fine new shape) (take i pegs) r (pegs_fine_kept spare new shape w.ready.store kept (take i pegs) w.fine) fine);
     same =
         ap (pegs_of new shape) (take_more_set pegs i r il) ∙ map-append (peg_chart new shape) (take i pegs) (r ∷ [])
         ∙ ap (λ t. t ++ peg_chart new shape r ∷ []) (pegs_kept spare new shape w.ready.store kept (take i pegs) w.fine ∙ w.same)
@@ -146,7 +146,7 @@ module _ (source spare new : List (Option Node)) (shape : Shape) (old pegs : Lis
 
 pub swept_all : (source spare : List (Option Node)) (shape : Shape) (old pegs : List (Option Edge)) (i : ℕ) → length pegs ≤ i → Swept source spare shape old pegs i → Collected source spare shape old pegs
 swept_all source spare shape old pegs i h w = record {
-  held = record { ready = w.ready; fine = subst (All (peg_fine spare shape)) (take_all i pegs h) w.fine };
+  held = record { ready = w.ready; fine = subst (AllByRecursion (peg_fine spare shape)) (take_all i pegs h) w.fine };
   same = ap (pegs_of spare shape) (sym (take_all i pegs h)) ∙ w.same ∙ ap (pegs_of source shape) (take_all i old (omega (arith, h, w.long)));
   owned = w.owned;
 }

@@ -1,6 +1,6 @@
 -- Pegs that carry edges into a store, and what a sweep leaves. Assumes nothing.
 use Rattle.std.specs.Prelude.{◌≡◌, ℕ, false, List, map, length, take, drop, Some, None, Option}
-use Rattle.std.specs.List.{AllByRecursion as All}
+use Rattle.std.specs.List.{AllByRecursion}
 use Rattle.nodes.specs.declared.edge.Edge.{Edge}
 use Rattle.nodes.specs.declared.node.Node.{Node}
 use Rattle.model.specs.Charts.{Chart, late}
@@ -26,7 +26,7 @@ peg_fine nodes shape (Some e) = Fine nodes shape 0 e × (some late (chart nodes 
 
 pub record Held (nodes : List (Option Node)) (shape : Shape) (pegs : List (Option Edge)) : Type 0 where
   pub ready : Ready nodes shape
-  pub fine : All (peg_fine nodes shape) pegs
+  pub fine : AllByRecursion (peg_fine nodes shape) pegs
 
 -- the same charts in another store, which has no more than their parts
 pub record Collected (source spare : List (Option Node)) (shape : Shape) (old pegs : List (Option Edge)) : Type 0 where
@@ -44,7 +44,7 @@ pub record Swept (source spare : List (Option Node)) (shape : Shape) (old pegs :
   pub ready : Ready spare shape
   pub size : length spare ≡ length source
   pub owned : Owned spare shape (charts (pegs_of source shape old))
-  pub fine : All (peg_fine spare shape) (take i pegs)
+  pub fine : AllByRecursion (peg_fine spare shape) (take i pegs)
   pub same : pegs_of spare shape (take i pegs) ≡ pegs_of source shape (take i old)
   pub rest : drop i pegs ≡ drop i old
   pub long : length pegs ≡ length old
