@@ -1,5 +1,5 @@
 -- Two plans of rigs that are alike say the same. Assumes nothing.
-use Rattle.std.proofs.Common.{◌≡◌, ℕ, ◌+◌, List, [], ◌∷◌, ◌++◌, length, take, drop, Some, None, Ok, Err, Result, sym, refl, ap, ◌∙◌, subst, arith}
+use Rattle.std.proofs.Common.{◌≡◌, ℕ, List, [], ◌∷◌, ◌++◌, length, take, drop, Some, None, Ok, Err, Result, sym, refl, ap, ◌∙◌, arith}
 use Rattle.model.specs.Contents.{Contents}
 use Rattle.model.specs.Shelves.{Meaning}
 use Rattle.theory.specs.Alike.{Alike}
@@ -11,7 +11,7 @@ use Rattle.planner.specs.declared.answer.Plan.TheVariants.{Way, NoWay}
 use Rattle.steps.specs.declared.fault.PlanFault.{PlanFault}
 use Rattle.steps.specs.Faults.{number}
 use Rattle.planner.specs.Plans.{Filled, refusal, Planned}
-use Rattle.show.specs.Agreeing.{Agree, Made, PlansAgree}
+use Rattle.show.specs.Agreeing.{Agree, PlansAgree}
 
 take_front : (is rest : List ℕ) → take (length is) (is ++ rest) ≡ is
 take_front [] rest = refl

@@ -1,5 +1,5 @@
 -- A show: what each call answers, what it leaves, and what each plan promises. Assumes nothing.
-use Rattle.std.specs.Prelude.{◌≡◌, ℕ, List, [], ◌∷◌, length, take, Some, None, Ok, Err, vec_items, vec_len, Option, Result, Vec}
+use Rattle.std.specs.Prelude.{◌≡◌, ℕ, List, [], ◌∷◌, length, take, Some, Ok, Err, vec_items, vec_len, Option, Result, Vec}
 use Rattle.std.specs.List.{slice_get}
 use Rattle.std.specs.declared.alloc.Global.{Global}
 use Rattle.model.specs.Scenes.{Shape, Scene}

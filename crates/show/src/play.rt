@@ -13,7 +13,7 @@ use shelf::calls::Shelf;
 
 /// Makes one call, and writes its reply.
 pub fn call<S: Shelf>(rig: &mut Rig, cue: &mut Cue<S>)
-    ensures answer { Answered meaning (contents rig.old) cue.old cue.new }
+    ensures answer { Answered S.meaning (contents rig.old) cue.old cue.new }
     ensures left { contents rig.new ≡ altered (contents rig.old) cue.old }
 {
     match cue {
@@ -41,7 +41,7 @@ pub fn call<S: Shelf>(rig: &mut Rig, cue: &mut Cue<S>)
 
 /// Makes each call in turn, and writes its reply.
 pub fn play<S: Shelf>(rig: &mut Rig, cues: &mut [Cue<S>])
-    ensures played { Played meaning (contents rig.old) cues.old cues.new (contents rig.new) }
+    ensures played { Played S.meaning (contents rig.old) cues.old cues.new (contents rig.new) }
 {
     for cue in cues.iter_mut() {
         call(rig, cue);
@@ -57,7 +57,7 @@ pub fn show<S: Shelf>(
     slots: Vec<Option<Move>>,
     cues: &mut [Cue<S>],
 ) -> Result<Rig, Unopened>
-    ensures shown { Shown meaning settings.now names.now scene.now slots cues.old result cues.new }
+    ensures shown { Shown S.meaning settings.now names.now scene.now slots cues.old result cues.new }
 {
     let mut rig = Rig::open(settings, names, scene, slots)?;
     play(&mut rig, cues);

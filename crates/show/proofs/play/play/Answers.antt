@@ -1,4 +1,4 @@
-use Rattle.std.proofs.Common.{◌<◌, ◌≤◌, refl, arith}
+use Rattle.std.proofs.Common.{refl, arith}
 use Rattle.show.proofs.Turns.{played_more, played_all}
 use Rattle.show.proofs.play.play.Goals as goal
 
