@@ -1,5 +1,5 @@
 -- What a call of a diagram shelf answers and leaves once its chart was tried. Assumes nothing.
-use Rattle.std.proofs.Common.{◌≡◌, ℕ, zero, suc, Bool, true, false, not, List, [], ◌∷◌, ◌++◌, get_or, is_some, Some, None, Ok, Err, Option, Result, sym, refl, ap, ◌∙◌, subst}
+use Rattle.std.proofs.Common.{◌≡◌, ℕ, zero, suc, false, not, List, [], ◌∷◌, ◌++◌, get_or, is_some, Some, None, Ok, Err, Option, Result, sym, refl, ap, ◌∙◌}
 use Rattle.nodes.specs.declared.edge.Edge.{Edge}
 use Rattle.nodes.specs.declared.node.Node.{Node}
 use Rattle.model.specs.Scenes.{Shape}
@@ -11,7 +11,6 @@ use Rattle.model.proofs.Refusing.{accepts, refuses}
 use Rattle.model.proofs.Soundness.{call_accepted, call_refused}
 use Rattle.shelf.specs.Faults.{number, numbered}
 use Rattle.shelf.specs.declared.fault.ShelfFault.{ShelfFault}
-use Rattle.shelf.specs.declared.fault.ShelfFault.TheVariants.{NoRoom}
 use Rattle.diagram.specs.Means.{Hung}
 
 all_append : {A : Type 0} (P : A → Type 0) (xs : List A) (y : A) → All P xs → P y → All P (xs ++ (y ∷ []))

@@ -1,7 +1,7 @@
 -- What a diagram shelf keeps has at most one proof. Assumes nothing.
-use Rattle.std.proofs.Common.{◌≡◌, ℕ, ◌+◌, ◌<◌, ◌≤◌, Bool, true, false, List, [], ◌∷◌, length, take, drop, Some, None, Option, sym, refl, ap, ◌∙◌, arith}
+use Rattle.std.proofs.Common.{◌≡◌, ℕ, ◌+◌, List, [], ◌∷◌, take, drop, Some, None, Option, refl, ap, arith}
 use mathlib.Core.Bool.{Bool-set}
-use mathlib.Core.HLevel.{⊥_prop, Unit-prop, Π_prop, ×_prop, hedberg, Discrete}
+use mathlib.Core.HLevel.{⊥_prop, Unit-prop, ×_prop, hedberg, Discrete}
 use mathlib.Core.List.{is_set}
 use native.Mathlib.Bridge.{le_prop}
 use native.Mathlib.Decide.{ℕ_discrete}
@@ -11,9 +11,9 @@ use Rattle.table.specs.Tables.{Table}
 use Rattle.nodes.specs.declared.edge.Edge.{Edge}
 use Rattle.nodes.specs.declared.node.Node.{Node}
 use Rattle.nodes.specs.declared.remembered.Remembered.{Remembered}
-use Rattle.model.specs.Charts.{Time, Chart}
+use Rattle.model.specs.Charts.{Time}
 use Rattle.model.specs.Scenes.{Shape}
-use Rattle.store.specs.Stores.{Leads, Fine, Formed, Proper, Store}
+use Rattle.store.specs.Stores.{Leads, Fine, Proper, Store}
 use Rattle.build.specs.Builds.{Ready}
 use Rattle.memo.specs.Results.{Right, Knows}
 use Rattle.pegs.specs.Held.{peg_fine, Held}
