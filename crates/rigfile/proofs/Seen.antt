@@ -1,6 +1,6 @@
 -- The moves of the code, as bytes. Assumes nothing.
 use Rattle.std.proofs.Common.{◌≡◌, ℕ, ◌+◌, ◌*◌, ◌≤◌, List, [], ◌∷◌, ◌++◌, map, length, Some, None, Option, sym, refl, ap, ◌∙◌, subst, append_assoc, append-nil, arith}
-use Rattle.std.specs.List.{flat_map, AllByRecursion as All}
+use Rattle.std.specs.List.{flat_map, AllByRecursion}
 use Rattle.std.proofs.lemmas.List.{length-map}
 use Rattle.model.specs.Limits.{most_tests}
 use Rattle.model.specs.Moves as model
@@ -17,7 +17,7 @@ joined_map : {X Y : Type 0} (f : Y → List ℕ) (g : X → Y) (xs : List X) →
 joined_map f g [] = refl
 joined_map f g (x ∷ xs) = ap (λ (u : List ℕ). f (g x) ++ u) (joined_map f g xs)
 
-pub all_of_map : {X Y : Type 0} (P : Y → Type 0) (f : X → Y) (xs : List X) → All P (map f xs) → All (λ x. P (f x)) xs
+pub all_of_map : {X Y : Type 0} (P : Y → Type 0) (f : X → Y) (xs : List X) → AllByRecursion P (map f xs) → AllByRecursion (λ x. P (f x)) xs
 all_of_map P f [] h = tt
 all_of_map P f (x ∷ xs) h = (h.0, all_of_map P f xs h.1)
 
@@ -89,8 +89,8 @@ module _ (m : Move) (h : Brief m) where
   pub few_surcharges : (xs : List Surcharge) → map surcharge_of xs ≡ (move_of m).surcharges → length xs ≤ 8
   few_surcharges xs e = let l = sym (length-map xs surcharge_of) ∙ ap length e in omega (arith, l, h.surcharges)
 
-  pub few_tests : (xs : List Surcharge) → map surcharge_of xs ≡ (move_of m).surcharges → All FewTests xs
-  few_tests xs e = all_of_map (λ (x : model.Surcharge). length x.tests ≤ most_tests) surcharge_of xs (subst (All (λ (x : model.Surcharge). length x.tests ≤ most_tests)) (sym e) h.tests)
+  pub few_tests : (xs : List Surcharge) → map surcharge_of xs ≡ (move_of m).surcharges → AllByRecursion FewTests xs
+  few_tests xs e = all_of_map (λ (x : model.Surcharge). length x.tests ≤ most_tests) surcharge_of xs (subst (AllByRecursion (λ (x : model.Surcharge). length x.tests ≤ most_tests)) (sym e) h.tests)
 
 -- a slot takes as many bytes whatever its number
 pub slot_size : (n : ℕ) (o : Option Move) → length (slot_bytes n o) ≡ length (slot_bytes 0 o)

@@ -1,6 +1,6 @@
 -- A rig's file from its parts. Assumes nothing.
 use Rattle.std.proofs.Common.{◌≡◌, ℕ, ◌+◌, ◌*◌, ◌≤◌, List, ◌++◌, map, length, drop, Some, None, Option, sym, ap, ◌∙◌, subst, append_assoc, arith, length-append}
-use Rattle.std.specs.List.{flat_map, AllByRecursion as All}
+use Rattle.std.specs.List.{flat_map, AllByRecursion}
 use Rattle.std.proofs.lemmas.List.{length-map}
 use Rattle.std.proofs.ByRecursion.{All-weaker}
 use Rattle.model.specs.Limits.{most_tests}
@@ -47,14 +47,14 @@ module _ (c : Contents) (lawful : Lawful c) (ns : List ℕ) (names : List Name) 
   pub moves_few : length (entries 0 (map slot_of slots)) ≤ 255
   moves_few = let l = length-map slots slot_of in omega (arith, l, entries_few 0 (map slot_of slots), slots_few)
 
-  pub slots_brief : All BriefSlot slots
+  pub slots_brief : AllByRecursion BriefSlot slots
   slots_brief =
       All-weaker (λ (o : Option Move). LawfulSlot c.settings (slot_of o)) BriefSlot (brief_slot c.settings) slots
-      (all_of_map (LawfulSlot c.settings) slot_of slots (subst (All (LawfulSlot c.settings)) (sym e) (contents_told c lawful).each_slot))
+      (all_of_map (LawfulSlot c.settings) slot_of slots (subst (AllByRecursion (LawfulSlot c.settings)) (sym e) (contents_told c lawful).each_slot))
 
-  module _ (eight : All Eight names) where
+  module _ (eight : AllByRecursion Eight names) where
     pub held : Held c
-    held = record { lawful = lawful; eight = subst (All Eight) b eight }
+    held = record { lawful = lawful; eight = subst (AllByRecursion Eight) b eight }
 
     pub devices_size : length (devices ns names) ≡ 9 * length names
     devices_size = devices_long ns names names_many eight ∙ ap (λ (n : ℕ). 9 * n) (sym names_many)
@@ -99,7 +99,7 @@ module _ (c : Contents) (lawful : Lawful c) (ns : List ℕ) (names : List Name) 
 
   -- the parts put one after another
   pub whole_written :
-      All Eight names → (old m₁ m₂ m₃ m₄ new sc ms : List ℕ) (k t p q r s n : ℕ) → sc ≡ c.scene → ms ≡ c.masks → k ≡ length (entries 0 (map slot_of slots)) → t ≡ length (file c) → length (file c) ≤ length old
+      AllByRecursion Eight names → (old m₁ m₂ m₃ m₄ new sc ms : List ℕ) (k t p q r s n : ℕ) → sc ≡ c.scene → ms ≡ c.masks → k ≡ length (entries 0 (map slot_of slots)) → t ≡ length (file c) → length (file c) ≤ length old
       → (p ≡ 12) × Writes old 0 (header (length ns) k t) m₁
       → (q ≡ p + length (devices ns names)) × Writes m₁ p (devices ns names) m₂
       → (r ≡ q + length sc) × Writes m₂ q sc m₃

@@ -1,6 +1,6 @@
 -- Bytes written into a buffer, and what a write answers and leaves. Assumes nothing.
 use Rattle.std.specs.Prelude.{◌≡◌, ℕ, ◌+◌, ◌<◌, ◌≤◌, List, [], ◌∷◌, ◌++◌, map, length, take, drop, Some, None, Ok, Err, Option, Result}
-use Rattle.std.specs.List.{flat_map, AllByRecursion as All}
+use Rattle.std.specs.List.{flat_map, AllByRecursion}
 use Rattle.model.specs.Limits.{most_conditions, most_effects, most_surcharges, most_tests}
 use Rattle.moves.specs.declared.pair.Pair.{Pair}
 use Rattle.moves.specs.declared.entry.Surcharge.{Surcharge}
@@ -40,7 +40,7 @@ pub record Brief (m : Move) : Type 0 where
   pub conditions : length (move_of m).conditions ≤ most_conditions
   pub effects : length (move_of m).effects ≤ most_effects
   pub surcharges : length (move_of m).surcharges ≤ most_surcharges
-  pub tests : All (λ x. length x.tests ≤ most_tests) (move_of m).surcharges
+  pub tests : AllByRecursion (λ x. length x.tests ≤ most_tests) (move_of m).surcharges
 
 abbrev pub BriefSlot : Option Move → Type 0
 BriefSlot None = Unit {0}

@@ -1,6 +1,6 @@
 //! Surcharges and moves put into a buffer.
 ghost use Rattle.std.specs.Prelude.{◌≡◌, ◌+◌, ◌≤◌, [], ◌∷◌, ◌++◌, length};
-ghost use Rattle.std.specs.List.{flat_map, AllByRecursion as All};
+ghost use Rattle.std.specs.List.{flat_map, AllByRecursion};
 ghost use Rattle.model.specs.Limits.{most_slots};
 ghost use Rattle.moves.specs.Views.{move_of};
 ghost use Rattle.format.specs.Bytes.{two};
@@ -22,7 +22,7 @@ fn put_surcharge(buffer: &mut [u8], at: usize, surcharge: &Surcharge) -> usize
 }
 
 fn put_surcharges(buffer: &mut [u8], at: usize, surcharges: &[Surcharge]) -> usize
-    requires { (at + length (flat_map surcharge_bytes surcharges.now) ≤ length buffer.old) × (All FewTests surcharges.now) }
+    requires { (at + length (flat_map surcharge_bytes surcharges.now) ≤ length buffer.old) × (AllByRecursion FewTests surcharges.now) }
     ensures next { result ≡ at + length (flat_map surcharge_bytes surcharges.now) }
     ensures done { Writes buffer.old at (flat_map surcharge_bytes surcharges.now) buffer.new }
 {
@@ -77,7 +77,7 @@ fn put_slot(buffer: &mut [u8], at: usize, number: u8, slot: Option<Move>) -> usi
 
 /// Puts the moves of the slots in use by rising number.
 pub(crate) fn put_slots(buffer: &mut [u8], at: usize, slots: &[Option<Move>]) -> usize
-    requires { (at + length (slots_bytes 0 slots.now) ≤ length buffer.old) × ((length slots.now ≤ most_slots) × (All BriefSlot slots.now)) }
+    requires { (at + length (slots_bytes 0 slots.now) ≤ length buffer.old) × ((length slots.now ≤ most_slots) × (AllByRecursion BriefSlot slots.now)) }
     ensures next { result ≡ at + length (slots_bytes 0 slots.now) }
     ensures done { Writes buffer.old at (slots_bytes 0 slots.now) buffer.new }
 {

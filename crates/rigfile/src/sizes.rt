@@ -1,6 +1,6 @@
 //! How many bytes the parts of a file take.
 ghost use Rattle.std.specs.Prelude.{◌≡◌, ◌+◌, ◌*◌, ◌≤◌, map, length};
-ghost use Rattle.std.specs.List.{flat_map, AllByRecursion as All};
+ghost use Rattle.std.specs.List.{flat_map, AllByRecursion};
 ghost use Rattle.model.specs.Limits.{most_surcharges, most_slots};
 ghost use Rattle.moves.specs.Views.{slot_of};
 ghost use Rattle.format.specs.Files.{Eight, entries};
@@ -13,7 +13,7 @@ use moves::entry::{Move, Surcharge};
 pub(crate) fn devices_size(names: &[Name]) -> usize
     requires { length names.now ≤ 12 }
     ensures size { result ≡ 9 * length names.now }
-    ensures eight { All Eight names.now }
+    ensures eight { AllByRecursion Eight names.now }
 {
     9 * names.len()
 }
@@ -27,7 +27,7 @@ fn surcharge_size(surcharge: &Surcharge) -> usize
 }
 
 fn surcharges_size(surcharges: &[Surcharge]) -> usize
-    requires { (length surcharges.now ≤ most_surcharges) × (All FewTests surcharges.now) }
+    requires { (length surcharges.now ≤ most_surcharges) × (AllByRecursion FewTests surcharges.now) }
     ensures size { result ≡ length (flat_map surcharge_bytes surcharges.now) }
     ensures small { result ≤ 72 }
 {
@@ -56,7 +56,7 @@ fn slot_size(slot: &Option<Move>) -> usize
 }
 
 pub(crate) fn slots_size(slots: &[Option<Move>]) -> usize
-    requires { (length slots.now ≤ most_slots) × (All BriefSlot slots.now) }
+    requires { (length slots.now ≤ most_slots) × (AllByRecursion BriefSlot slots.now) }
     ensures size { result ≡ length (slots_bytes 0 slots.now) }
     ensures small { result ≤ 126 * most_slots }
 {
