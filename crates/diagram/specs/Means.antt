@@ -6,7 +6,7 @@ use Rattle.shelf.specs.Shapes.{shape_of}
 use Rattle.shelf.specs.declared.fault.ShelfFault.{ShelfFault}
 use Rattle.shelf.specs.declared.fault.ShelfFault.TheVariants.{NoRoom}
 use Rattle.pegs.specs.Held.{pegs_of}
-use Rattle.diagram.specs.declared.store.DiagramShelf.{DiagramShelf}
+use Rattle.diagram.specs.declared.diagram_shelf.DiagramShelf.{DiagramShelf}
 
 -- the capacity is the number of node slots, and the fill the number of different parts
 abbrev pub means : DiagramShelf → Meaning

@@ -1,4 +1,4 @@
 //! The diagram shelf: charts as edge-valued decision diagrams in a fixed number of node slots.
 #![tactic(auto)]
 
-pub mod store;
+pub mod diagram_shelf;

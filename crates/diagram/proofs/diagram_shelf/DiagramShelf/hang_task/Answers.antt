@@ -2,7 +2,7 @@ use Rattle.std.proofs.Common.{◌≡◌, length, vec_items, vec_len, refl, ◌�
 use Rattle.std.proofs.lemmas.List.{with_items_is}
 use Rattle.shelf.specs.Shapes.{shape_of}
 use Rattle.diagram.proofs.Hanging.{held_in, knows_in, allowed_in, held_out, knows_out, hung_true, hung_false}
-use Rattle.diagram.proofs.store.DiagramShelf.hang_task.Goals as goal
+use Rattle.diagram.proofs.diagram_shelf.DiagramShelf.hang_task.Goals as goal
 
 pub hang-hung-requires : goal.hang-hung-requires
 hang-hung-requires c =

@@ -4,7 +4,7 @@ ghost use Rattle.hang.specs.Tasks.{Allowed, made};
 ghost use Rattle.shelf.specs.Shapes.{shape_of};
 ghost use Rattle.diagram.specs.Means.{means, Hung};
 
-use crate::store::DiagramShelf;
+use crate::diagram_shelf::DiagramShelf;
 use hang::retry::hang;
 use hang::task::Task;
 use shelf::fault::ShelfFault;
