@@ -20,7 +20,7 @@ use Rattle.store.proofs.Greatest.{plus_zero}
 use Rattle.build.specs.Builds.{raised, piece, Stands}
 use Rattle.build.proofs.Weights.{later_later}
 use Rattle.build.proofs.Makes.{late_less}
-use Rattle.build.proofs.Steps.{getD_in}
+use Rattle.build.proofs.Steps.{get_or_in}
 
 -- What is late
 
@@ -136,7 +136,7 @@ module _ (nodes : List (Option Node)) (shape : Shape) (store : Store nodes shape
     side_fine =
         let n = get_or shape l 0 in
         let ns = drop (l + 1) shape in
-        raised_fine nodes ns (l + 1) w (get_or x.edges k none_edge) (subst (Fine nodes ns (l + 1)) (get_or-take n x.edges k none_edge kl) (all_in (Fine nodes ns (l + 1)) (get_or (take n x.edges) k none_edge) (take n x.edges) all_kids (getD_in (take n x.edges) k none_edge (omega (arith, kl, side_formed.wide)))))
+        raised_fine nodes ns (l + 1) w (get_or x.edges k none_edge) (subst (Fine nodes ns (l + 1)) (get_or-take n x.edges k none_edge kl) (all_in (Fine nodes ns (l + 1)) (get_or (take n x.edges) k none_edge) (take n x.edges) all_kids (get_or_in (take n x.edges) k none_edge (omega (arith, kl, side_formed.wide)))))
 
     pub side_piece : piece shape l (later (Some w) (body nodes (drop l shape) x)) k ≡ chart nodes (drop (l + 1) shape) (raised (Some w) (get_or x.edges k none_edge))
     side_piece =

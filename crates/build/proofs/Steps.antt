@@ -20,10 +20,10 @@ pub length_pieces : (n m : ℕ) (c : Chart) → length (pieces n m c) ≡ n
 length_pieces zero m c = refl
 length_pieces (suc n) m c = ap suc (length_pieces n m (drop m c))
 
-pub getD_in : {A : Type 0} (xs : List A) (i : ℕ) (d : A) → i < length xs → In (get_or xs i d) xs
-getD_in [] i d l = absurd (omega arith)
-getD_in (x ∷ xs) zero d l = inl refl
-getD_in (x ∷ xs) (suc i) d l = inr (getD_in xs i d (omega arith))
+pub get_or_in : {A : Type 0} (xs : List A) (i : ℕ) (d : A) → i < length xs → In (get_or xs i d) xs
+get_or_in [] i d l = absurd (omega arith)
+get_or_in (x ∷ xs) zero d l = inl refl
+get_or_in (x ∷ xs) (suc i) d l = inr (get_or_in xs i d (omega arith))
 
 -- the parts of a piece are parts
 pub piece_parts : (shape : Shape) (l : ℕ) (c : Chart) (i : ℕ) (p : Part) → l < length shape → i < get_or shape l 0 → In p (parts (drop (l + 1) shape) (l + 1) (piece shape l c i)) → In p (parts (drop l shape) l c)
@@ -31,7 +31,7 @@ piece_parts shape l c i p lt il h =
     let n = get_or shape l 0 in
     let ns = drop (l + 1) shape in
     let ps = pieces n (size ns) c in
-    subst (λ t. In p (parts t l c)) (sym (drop_more shape l 0 lt)) (inr (each_in (parts ns (l + 1)) p (get_or ps i []) ps (getD_in ps i [] (omega (arith, il, length_pieces n (size ns) c))) h))
+    subst (λ t. In p (parts t l c)) (sym (drop_more shape l 0 lt)) (inr (each_in (parts ns (l + 1)) p (get_or ps i []) ps (get_or_in ps i [] (omega (arith, il, length_pieces n (size ns) c))) h))
 
 -- growth after growth
 

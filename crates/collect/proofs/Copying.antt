@@ -20,7 +20,7 @@ use Rattle.store.proofs.Grows.{fine_kept, chart_kept}
 use Rattle.build.specs.Builds.{piece, Ready, Kids, Grows, Partway, together, Stands}
 use Rattle.build.proofs.Highs.{late_left, late_right}
 use Rattle.build.proofs.Makes.{late_less, highest_never}
-use Rattle.build.proofs.Steps.{getD_in, grows_then, grows_alike, ready_after, stuck_wider, partway_grows, partway_stuck, partway_more, partway_kids, partway_all}
+use Rattle.build.proofs.Steps.{get_or_in, grows_then, grows_alike, ready_after, stuck_wider, partway_grows, partway_stuck, partway_more, partway_kids, partway_all}
 use Rattle.collect.specs.Copies.{Noted, Moved}
 
 -- What is late
@@ -108,7 +108,7 @@ module _ (source : List (Option Node)) (shape : Shape) (l : ℕ) (e : Edge) (x :
     kid_fine =
         let n = get_or shape l 0 in
         let ns = drop (l + 1) shape in
-        subst (Fine source ns (l + 1)) (get_or-take n x.edges k none_edge kl) (all_in (Fine source ns (l + 1)) (get_or (take n x.edges) k none_edge) (take n x.edges) all_kids (getD_in (take n x.edges) k none_edge (omega (arith, kl, formed.wide))))
+        subst (Fine source ns (l + 1)) (get_or-take n x.edges k none_edge kl) (all_in (Fine source ns (l + 1)) (get_or (take n x.edges) k none_edge) (take n x.edges) all_kids (get_or_in (take n x.edges) k none_edge (omega (arith, kl, formed.wide))))
 
     pub kid_timely : late (below source (drop l shape) e) ≡ false → late (below source (drop (l + 1) shape) (get_or x.edges k none_edge)) ≡ false
     kid_timely h =

@@ -52,10 +52,10 @@ put_below n v d ns c vl dl =
     (λ s h. at_piece n (size ns) x (rank ns (set s v d)) c (omega arith) (rank_less ns (set s v d) (set_scene ns s v d h vl dl))))
 
 -- a put of a chart that is later
-pub getD_later : (w : Time) (c : Chart) (k : ℕ) → plus w None ≡ None → get_or (later w c) k None ≡ plus w (get_or c k None)
-getD_later w [] k h = sym h
-getD_later w (x ∷ c) zero h = refl
-getD_later w (x ∷ c) (suc k) h = getD_later w c k h
+pub get_or_later : (w : Time) (c : Chart) (k : ℕ) → plus w None ≡ None → get_or (later w c) k None ≡ plus w (get_or c k None)
+get_or_later w [] k h = sym h
+get_or_later w (x ∷ c) zero h = refl
+get_or_later w (x ∷ c) (suc k) h = get_or_later w c k h
 
 plus_none : (w : Time) → plus w None ≡ None
 plus_none None = refl
@@ -63,11 +63,11 @@ plus_none (Some w) = refl
 
 pub put_later : (ns : Shape) (v d : ℕ) (w : Time) (c : Chart) → put_chart ns v d (later w c) ≡ later w (put_chart ns v d c)
 put_later ns v d w c =
-    tabulated_as ns (λ s. at ns (later w c) (set s v d)) (λ s. plus w (at ns c (set s v d))) (λ s h. getD_later w c (rank ns (set s v d)) (plus_none w))
+    tabulated_as ns (λ s. at ns (later w c) (set s v d)) (λ s. plus w (at ns c (set s v d))) (λ s h. get_or_later w c (rank ns (set s v d)) (plus_none w))
     ∙ sym (map-map (plus w) (λ s. at ns c (set s v d)) (scenes ns))
 
 -- a chart without times stays as it is
 pub put_never : (ns : Shape) (v d : ℕ) (c : Chart) → length c ≡ size ns → put_chart ns v d (later None c) ≡ later None c
 put_never ns v d c h =
-    tabulated_as ns (λ s. at ns (later None c) (set s v d)) (at ns (later None c)) (λ s k. getD_later None c (rank ns (set s v d)) refl ∙ sym (getD_later None c (rank ns s) refl))
+    tabulated_as ns (λ s. at ns (later None c) (set s v d)) (at ns (later None c)) (λ s k. get_or_later None c (rank ns (set s v d)) refl ∙ sym (get_or_later None c (rank ns s) refl))
     ∙ tabulated_self ns (later None c) (lib.ListN.length-map c (plus None) ∙ h)

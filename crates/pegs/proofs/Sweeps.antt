@@ -19,7 +19,7 @@ use Rattle.store.specs.Fillings.{Stuck, Owned, name}
 use Rattle.store.proofs.Grows.{fine_kept, chart_kept, name_kept}
 use Rattle.store.proofs.Fits.{roomy, overfull}
 use Rattle.build.specs.Builds.{NodeTable, Ready, Grows, Built}
-use Rattle.build.proofs.Steps.{getD_in, ready_after}
+use Rattle.build.proofs.Steps.{get_or_in, ready_after}
 use Rattle.pegs.specs.Held.{peg_chart, pegs_of, peg_fine, Held, Collected, CopiesPeg, Swept}
 
 -- Pegs
@@ -89,7 +89,7 @@ module _ (source spare new : List (Option Node)) (shape : Shape) (old pegs : Lis
   next_is = ap (λ n. get_or pegs n None) (let z : i ≡ i + 0 = omega arith in z) ∙ sym (get_or-drop i pegs 0 None) ∙ ap (λ t. get_or t 0 None) w.rest ∙ get_or-drop i old 0 None ∙ ap (λ n. get_or old n None) (let z : i + 0 ≡ i = omega arith in z)
 
   next_old : In (get_or pegs i None) old
-  next_old = subst (λ p. In p old) (sym next_is) (getD_in old i None (omega (arith, il, w.long)))
+  next_old = subst (λ p. In p old) (sym next_is) (get_or_in old i None (omega (arith, il, w.long)))
 
   pub next_fine : peg_fine source shape (get_or pegs i None)
   next_fine = all_in (peg_fine source shape) (get_or pegs i None) old held.fine next_old

@@ -9,7 +9,7 @@ use Rattle.model.specs.Lists.{some}
 use Rattle.model.specs.Scenes.{Shape, Scene, SceneOf, size, rank}
 use Rattle.model.proofs.Ranks.{rank_less, scene_drop, scene_length, setting_less}
 use Rattle.parts.specs.Shifts.{later}
-use Rattle.parts.proofs.Tabulated.{at_piece, getD_later}
+use Rattle.parts.proofs.Tabulated.{at_piece, get_or_later}
 use Rattle.store.specs.Stores.{none_edge, node_at, chart, Fine}
 use Rattle.build.specs.Builds.{raised, piece, Ready}
 use Rattle.build.proofs.Sides.{side_chart, side_piece, side_fine, side_kid_timely, side_timely}
@@ -22,7 +22,7 @@ never_chart nodes (n ∷ ns) e none = (flat_map (chart nodes ns) (take n (node_a
 pub walk_never : (nodes : List (Option Node)) (ns : Shape) (s : Scene) (e : Edge) → e.weight ≡ None → None ≡ at ns (chart nodes ns e) s
 walk_never nodes ns s e none =
     let t = never_chart nodes ns e none in
-    sym (ap (λ c. at ns c s) t.1 ∙ getD_later None t.0 (rank ns s) refl)
+    sym (ap (λ c. at ns c s) t.1 ∙ get_or_later None t.0 (rank ns s) refl)
 
 pub walk_end : (nodes : List (Option Node)) (shape : Shape) (l : ℕ) (s : Scene) (e : Edge) (w : ℕ) → l ≡ length shape → e.weight ≡ Some w → ◌≡◌ {A = Time} (Some w) (at (drop l shape) (chart nodes (drop l shape) e) s)
 walk_end nodes shape l s e w end h = subst (λ (t : Shape). ◌≡◌ {A = Time} (Some w) (at t (chart nodes t e) s)) (sym (drop_all l shape (omega arith))) (sym h)
