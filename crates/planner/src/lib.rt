@@ -5,3 +5,5 @@ pub mod answer;
 pub mod planning;
 mod point;
 mod walk;
+
+pub use steps::{fault, halt, hanging};
