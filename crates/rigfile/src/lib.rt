@@ -2,8 +2,8 @@
 #![tactic(auto)]
 
 mod devices;
+mod entries;
 pub mod fault;
-mod moves;
 mod parts;
 mod sizes;
 pub mod write;

@@ -4,8 +4,8 @@ ghost use Rattle.rig.specs.Rigs.{contents};
 ghost use Rattle.rigfile.specs.Writing.{Written};
 
 use crate::devices::*;
+use crate::entries::put_slots;
 use crate::fault::WriteFault;
-use crate::moves::put_slots;
 use crate::parts::put_bytes;
 use crate::sizes::*;
 use rig::frame::Rig;

@@ -6,7 +6,7 @@ use Rattle.format.specs.Files.{surcharge}
 use Rattle.rigfile.specs.Writing.{Writes, pair_bytes}
 use Rattle.rigfile.proofs.Written.{further}
 use Rattle.rigfile.proofs.Seen.{as_many_pairs, surcharge_made}
-use Rattle.rigfile.proofs.moves.put_surcharge.Goals as goal
+use Rattle.rigfile.proofs.entries.put_surcharge.Goals as goal
 
 pub overflow_cast-tests : goal.overflow_cast-tests
 overflow_cast-tests c = omega (arith, as_many_pairs c.tests-tests.result.now (surcharge_of c.args.surcharge.now).tests c.tests-tests.ensures, c.requires.1)

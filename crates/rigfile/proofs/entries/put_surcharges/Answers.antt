@@ -5,7 +5,7 @@ use Rattle.std.proofs.ByRecursion.{All-get_or}
 use Rattle.rigfile.specs.Writing.{surcharge_bytes, FewTests}
 use Rattle.rigfile.proofs.Written.{begin, room, turn, ended}
 use Rattle.rigfile.proofs.Turns.{joined_left, joined_made}
-use Rattle.rigfile.proofs.moves.put_surcharges.Goals as goal
+use Rattle.rigfile.proofs.entries.put_surcharges.Goals as goal
 
 pub loop-surcharge-init : goal.loop-surcharge-init
 loop-surcharge-init c = begin c.args.buffer.now c.args.at (flat_map surcharge_bytes c.args.surcharges.now) c.requires.0

@@ -1,7 +1,7 @@
 use Rattle.std.proofs.Common.{ℕ, List, length, sym, ap, subst, arith}
 use Rattle.rigfile.specs.Writing.{Writes, slot_bytes}
 use Rattle.rigfile.proofs.Written.{nothing}
-use Rattle.rigfile.proofs.moves.put_slot.Goals as goal
+use Rattle.rigfile.proofs.entries.put_slot.Goals as goal
 
 pub returns-in-None : goal.returns-in-None
 returns-in-None c =

@@ -1,7 +1,7 @@
 use Rattle.std.proofs.Common.{◌≡◌, [], ◌∷◌, length, arith, rules}
 use Rattle.format.specs.Bytes.{two}
 use Rattle.rigfile.proofs.Written.{further}
-use Rattle.rigfile.proofs.moves.put_head.Goals as goal
+use Rattle.rigfile.proofs.entries.put_head.Goals as goal
 
 pub returns : goal.returns
 returns c =

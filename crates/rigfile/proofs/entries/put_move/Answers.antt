@@ -6,7 +6,7 @@ use Rattle.format.specs.Files.{entry}
 use Rattle.rigfile.specs.Writing.{Writes, pair_bytes, surcharge_bytes}
 use Rattle.rigfile.proofs.Written.{further}
 use Rattle.rigfile.proofs.Seen.{pairs_size, move_made, move_size, few_pairs, few_effects, few_surcharges, few_tests}
-use Rattle.rigfile.proofs.moves.put_move.Goals as goal
+use Rattle.rigfile.proofs.entries.put_move.Goals as goal
 
 pub overflow_cast-counts : goal.overflow_cast-counts
 overflow_cast-counts c = omega (arith, few_pairs c.args.entry.now c.requires.1 c.conditions-conditions.result.now c.conditions-conditions.ensures)

@@ -4,7 +4,7 @@ use Rattle.std.proofs.ByRecursion.{All-get_or}
 use Rattle.rigfile.specs.Writing.{slot_bytes, slots_bytes, BriefSlot}
 use Rattle.rigfile.proofs.Written.{begin, room, turn, ended}
 use Rattle.rigfile.proofs.Turns.{slots_left, slots_made}
-use Rattle.rigfile.proofs.moves.put_slots.Goals as goal
+use Rattle.rigfile.proofs.entries.put_slots.Goals as goal
 
 pub loop-number-init : goal.loop-number-init
 loop-number-init c = begin c.args.buffer.now c.args.at (slots_bytes 0 c.args.slots.now) c.requires.0
