@@ -6,50 +6,34 @@ ghost use Rattle.format.specs.Evening.{EveningFile};
 ghost use Rattle.format.specs.Laws.{OneReading, OneFile, EveryFile, PlacedBack, Prefixes};
 ghost use Rattle.format.specs.Reading.{TakenBack, ListsAsTaken};
 
-pub fn parts_are_prefix_codes() -> u8
+pub fn parts_are_prefix_codes()
     ensures { Prefixes }
-{
-    0
-}
+{}
 
-pub fn a_file_has_one_reading() -> u8
+pub fn a_file_has_one_reading()
     ensures { OneReading }
-{
-    0
-}
+{}
 
-pub fn a_rig_has_one_file() -> u8
+pub fn a_rig_has_one_file()
     ensures { OneFile }
-{
-    0
-}
+{}
 
-pub fn every_rig_has_a_file() -> u8
+pub fn every_rig_has_a_file()
     ensures { EveryFile }
-{
-    0
-}
+{}
 
-pub fn moves_are_placed_back() -> u8
+pub fn moves_are_placed_back()
     ensures { PlacedBack }
-{
-    0
-}
+{}
 
-pub fn the_evening_has_its_file() -> u8
+pub fn the_evening_has_its_file()
     ensures { EveningFile }
-{
-    0
-}
+{}
 
-pub fn what_a_rig_lists_is_taken_as_that_rig() -> u8
+pub fn what_a_rig_lists_is_taken_as_that_rig()
     ensures { TakenBack }
-{
-    0
-}
+{}
 
-pub fn what_is_taken_lists_what_was_read() -> u8
+pub fn what_is_taken_lists_what_was_read()
     ensures { ListsAsTaken }
-{
-    0
-}
+{}

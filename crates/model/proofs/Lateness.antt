@@ -1,6 +1,6 @@
 -- The greatest times of charts, and what is late. Assumes nothing.
 use Rattle.std.proofs.Common.{◌≡◌, ℕ, zero, suc, ◌<◌, Bool, true, false, ◌||◌, List, [], ◌∷◌, map, length, get_or, take, set, Some, None, refl, ap, ◌∙◌, subst, arith}
-use Rattle.std.specs.List.{AllByRecursion as All}
+use Rattle.std.specs.List.{AllByRecursion}
 use Rattle.std.proofs.lemmas.List.{get_or-take}
 use Rattle.std.proofs.ByRecursion.{All-weaker}
 use Rattle.std.proofs.lemmas.Bool.{ltb-false, le-ltb}
@@ -71,11 +71,11 @@ entry_under (x ∷ c) zero = greater_left x (greatest c)
 entry_under (x ∷ c) (suc k) = no_later_trans (get_or c k None) (greatest c) (greater x (greatest c)) (entry_under c k) (greater_right x (greatest c))
 
 -- what is over each entry is over the greatest
-pub over_each : {X : Type 0} (f : X → Time) (b : Time) (xs : List X) → All (λ x. NoLater (f x) b) xs → NoLater (greatest (map f xs)) b
+pub over_each : {X : Type 0} (f : X → Time) (b : Time) (xs : List X) → AllByRecursion (λ x. NoLater (f x) b) xs → NoLater (greatest (map f xs)) b
 over_each f b [] h = tt
 over_each f b (x ∷ xs) h = greater_both (f x) (greatest (map f xs)) b h.0 (over_each f b xs h.1)
 
-all_true : {X : Type 0} (P : X → Type 0) → ((x : X) → P x) → (xs : List X) → All P xs
+all_true : {X : Type 0} (P : X → Type 0) → ((x : X) → P x) → (xs : List X) → AllByRecursion P xs
 all_true P h [] = tt
 all_true P h (x ∷ xs) = (h x, all_true P h xs)
 

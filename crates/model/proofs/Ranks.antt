@@ -1,6 +1,6 @@
 -- Scenes, their order and their places. Assumes nothing.
 use Rattle.std.proofs.Common.{◌≡◌, ℕ, zero, suc, ◌+◌, ◌*◌, ◌%◌, ◌<◌, ◌≤◌, false, not, eqb, leb, List, [], ◌∷◌, map, length, get_or, drop, set, None, sym, refl, ap, ◌∙◌, mul-le-mul_right, mod-lt, div-lt_iff_lt-mul, arith}
-use Rattle.std.specs.List.{range_with_len, flat_map, AllByRecursion as All}
+use Rattle.std.specs.List.{range_with_len, flat_map, AllByRecursion}
 use Rattle.std.proofs.lemmas.List.{length-append, length-map, get_or_append_left, get_or-append-add, get_or-map, drop_more, get_or-set_same, get_or-set_other, ext_get_or}
 use Rattle.std.proofs.ByRecursion.{All-append, All-map, All-weaker}
 use Rattle.std.proofs.lemmas.Bool.{leb-false, lt-leb, eqb-true, eq-eqb, not-false, not_from_true, or_parts, or_from}
@@ -88,7 +88,7 @@ rank_unrank (n ∷ ns) k h =
 pub scene_at : (ns : Shape) (k : ℕ) → k < size ns → get_or (scenes ns) k [] ≡ unrank ns k
 scene_at ns k h = ap (λ i. get_or (scenes ns) i []) (sym (rank_unrank ns k h)) ∙ placed ns (unrank ns k) (unrank_scene ns k h)
 
-all_rows : (n : ℕ) (ns : Shape) → All (SceneOf ns) (scenes ns) → (a m : ℕ) → a + m ≤ n → All (SceneOf (n ∷ ns)) (rows ns a m)
+all_rows : (n : ℕ) (ns : Shape) → AllByRecursion (SceneOf ns) (scenes ns) → (a m : ℕ) → a + m ≤ n → AllByRecursion (SceneOf (n ∷ ns)) (rows ns a m)
 all_rows n ns h a zero le = tt
 all_rows n ns h a (suc m) le =
     All-append (SceneOf (n ∷ ns)) (map (λ xs. a ∷ xs) (scenes ns)) (rows ns (a + 1) m)
@@ -96,7 +96,7 @@ all_rows n ns h a (suc m) le =
     (all_rows n ns h (a + 1) m (omega arith))
 
 -- each of the scenes is a scene of the shape
-pub all_scenes : (ns : Shape) → All (SceneOf ns) (scenes ns)
+pub all_scenes : (ns : Shape) → AllByRecursion (SceneOf ns) (scenes ns)
 all_scenes [] = (tt, tt)
 all_scenes (n ∷ ns) = all_rows n ns (all_scenes ns) 0 n (omega arith)
 

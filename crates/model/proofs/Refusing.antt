@@ -1,6 +1,6 @@
 -- What a call answers and leaves, by its checks. Assumes nothing.
 use Rattle.std.proofs.Common.{◌≡◌, ℕ, Bool, true, false, cond, List, [], ◌∷◌, ◌++◌, Ok, Err, Result, sym, refl, ap, ◌∙◌, arith}
-use Rattle.std.specs.List.{AllByRecursion as All}
+use Rattle.std.specs.List.{AllByRecursion}
 use Rattle.std.proofs.lemmas.Bool.{cond-true, cond-false}
 use Rattle.model.specs.Refusals.{Check, refuse, answer, left_by}
 
@@ -19,14 +19,14 @@ stopped true n k r q h e = ap Err (inside e)
 stopped false n k r q h e = h e
 
 -- what is accepted passes each check
-pub accepted : {T : Type 0} (cs : List Check) (x y : T) → answer cs x ≡ Ok y → All (λ k. k.holds ≡ false) cs
+pub accepted : {T : Type 0} (cs : List Check) (x y : T) → answer cs x ≡ Ok y → AllByRecursion (λ k. k.holds ≡ false) cs
 accepted [] x y e = tt
 accepted (k ∷ cs) x y e =
     let both = passed k.holds k.number (answer cs x) y e in
     (both.0, accepted cs x y both.1)
 
 -- what passes each check is accepted
-pub accepts : {T : Type 0} (cs : List Check) (x : T) → All (λ k. k.holds ≡ false) cs → answer cs x ≡ Ok x
+pub accepts : {T : Type 0} (cs : List Check) (x : T) → AllByRecursion (λ k. k.holds ≡ false) cs → answer cs x ≡ Ok x
 accepts [] x h = refl
 accepts (k ∷ cs) x h = cond-false k.holds (Err k.number) (answer cs x) h.0 ∙ accepts cs x h.1
 
@@ -36,7 +36,7 @@ accepted_is [] x y e = cc
 accepted_is (k ∷ cs) x y e = accepted_is cs x y (passed k.holds k.number (answer cs x) y e).1
 
 -- the first check that holds is the answer
-pub refuses : {T : Type 0} (before : List Check) (n : ℕ) (b : Bool) (after : List Check) (x : T) → All (λ k. k.holds ≡ false) before → b ≡ true → answer (before ++ (refuse n b ∷ after)) x ≡ Err n
+pub refuses : {T : Type 0} (before : List Check) (n : ℕ) (b : Bool) (after : List Check) (x : T) → AllByRecursion (λ k. k.holds ≡ false) before → b ≡ true → answer (before ++ (refuse n b ∷ after)) x ≡ Err n
 refuses [] n b after x h e = cond-true b (Err n) (answer after x) e
 refuses (k ∷ before) n b after x h e =
     cond-false k.holds (Err k.number) (answer (before ++ (refuse n b ∷ after)) x) h.0 ∙ refuses before n b after x h.1 e

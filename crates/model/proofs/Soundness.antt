@@ -1,6 +1,6 @@
 -- A sound shelf stays sound. Assumes nothing.
 use Rattle.std.proofs.Common.{◌≡◌, ℕ, zero, suc, Bool, true, false, not, [], ◌∷◌, length, get_or, take, set, is_some, IfSome, Some, None, Ok, Err, Option, sym, ◌∙◌, arith, rules}
-use Rattle.std.specs.List.{AllByRecursion as All}
+use Rattle.std.specs.List.{AllByRecursion}
 use Rattle.std.proofs.lemmas.List.{length-set}
 use Rattle.std.proofs.lemmas.Bool.{or_parts, leb-false}
 use Rattle.model.specs.Lists.{some}
@@ -59,7 +59,7 @@ module _ (m : Meaning) (s : Sound m) where
   both_late (Some a) (Some b) h k = search rules
 
   -- the chart that an accepted call hangs
-  hung_whole : (c : Call) → All (λ k. k.holds ≡ false) (call_checks m c) → length (hung m.shape m.pegs c) ≡ size m.shape
+  hung_whole : (c : Call) → AllByRecursion (λ k. k.holds ≡ false) (call_checks m c) → length (hung m.shape m.pegs c) ≡ size m.shape
   hung_whole (dial t v es) h = lengths.dialled_length m.shape v es
   hung_whole (cheaper t a b) h =
       let both = or_parts (bare m.pegs a) (bare m.pegs b) h.1.0 in
@@ -69,7 +69,7 @@ module _ (m : Meaning) (s : Sound m) where
       zipped_length plus (on m.pegs a) (on m.pegs b) (whole_on a both.0 ∙ sym (whole_on b both.1)) ∙ whole_on a both.0
   hung_whole (put t a v d) h = put_length m.shape v d (on m.pegs a)
 
-  pub hung_legal : (c : Call) → All (λ k. k.holds ≡ false) (call_checks m c) → some late (hung m.shape m.pegs c) ≡ false
+  pub hung_legal : (c : Call) → AllByRecursion (λ k. k.holds ≡ false) (call_checks m c) → some late (hung m.shape m.pegs c) ≡ false
   hung_legal (dial t v es) h =
       legal_under (dialled m.shape v es) (greatest (take (get_or m.shape v 0) es))
       (latest.of_dialled m.shape v es (leb-false (length m.shape) v h.0))

@@ -1,14 +1,10 @@
 //! Where several refusals hold, the smallest number is answered.
 ghost use Rattle.model.specs.Smallest.{RigSmallest, ShelfSmallest};
 
-pub fn rigs_answer_the_smallest_refusal() -> u8
+pub fn rigs_answer_the_smallest_refusal()
     ensures { RigSmallest }
-{
-    0
-}
+{}
 
-pub fn shelves_answer_the_smallest_refusal() -> u8
+pub fn shelves_answer_the_smallest_refusal()
     ensures { ShelfSmallest }
-{
-    0
-}
+{}

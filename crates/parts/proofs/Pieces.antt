@@ -3,7 +3,7 @@ use Rattle.std.proofs.Common.{◌≡◌, ℕ, zero, suc, ◌+◌, ◌*◌, min, 
 use mathlib.Core.List.{map-map, map-append}
 use Rattle.std.proofs.lemmas.Bool.{both_ways}
 use Rattle.std.proofs.lemmas.List.{take_at, drop_at, take-map, drop-map}
-use Rattle.std.specs.List.{AllByRecursion as All, flat_map}
+use Rattle.std.specs.List.{AllByRecursion, flat_map}
 use Rattle.model.specs.Charts.{Time, Chart, plus, lesser}
 use Rattle.model.specs.Lists.{In}
 use Rattle.model.specs.Parts.{least, less, lowered, pieces, parts}
@@ -52,12 +52,12 @@ each_in f y x [] i j = absurd i
 each_in f y x (z ∷ zs) (inl e) j = in_left y (f z) (flat_map f zs) (subst (λ v. In y (f v)) e j)
 each_in f y x (z ∷ zs) (inr i) j = in_right y (f z) (flat_map f zs) (each_in f y x zs i j)
 
-pub all_in : {A : Type 0} (P : A → Type 0) (x : A) (xs : List A) → All P xs → In x xs → P x
+pub all_in : {A : Type 0} (P : A → Type 0) (x : A) (xs : List A) → AllByRecursion P xs → In x xs → P x
 all_in P x [] a i = absurd i
 all_in P x (y ∷ ys) a (inl e) = subst P (sym e) a.0
 all_in P x (y ∷ ys) a (inr i) = all_in P x ys a.1 i
 
-pub all_map : {A : Type 0} (P Q : A → Type 0) (xs : List A) → ((x : A) → P x → Q x) → All P xs → All Q xs
+pub all_map : {A : Type 0} (P Q : A → Type 0) (xs : List A) → ((x : A) → P x → Q x) → AllByRecursion P xs → AllByRecursion Q xs
 all_map P Q [] f a = tt
 all_map P Q (x ∷ xs) f a = (f x a.0, all_map P Q xs f a.1)
 
@@ -68,14 +68,14 @@ in_map f y (x ∷ xs) (inr i) = let r = in_map f y xs i in (r.0, inr r.1, r.2)
 
 -- ---- pieces
 
-pub pieces_each : {A : Type 0} (f : A → Chart) (m : ℕ) (xs : List A) → All (λ x. length (f x) ≡ m) xs → pieces (length xs) m (flat_map f xs) ≡ map f xs
+pub pieces_each : {A : Type 0} (f : A → Chart) (m : ℕ) (xs : List A) → AllByRecursion (λ x. length (f x) ≡ m) xs → pieces (length xs) m (flat_map f xs) ≡ map f xs
 pieces_each f m [] a = refl
 pieces_each f m (x ∷ xs) a =
     let p = take_at (f x) (flat_map f xs) m a.0 in
     let q = ap (pieces (length xs) m) (drop_at (f x) (flat_map f xs) m a.0) ∙ pieces_each f m xs a.1 in
     λ i. p i ∷ q i
 
-pub length_each : {A : Type 0} (f : A → Chart) (m : ℕ) (xs : List A) → All (λ x. length (f x) ≡ m) xs → length (flat_map f xs) ≡ length xs * m
+pub length_each : {A : Type 0} (f : A → Chart) (m : ℕ) (xs : List A) → AllByRecursion (λ x. length (f x) ≡ m) xs → length (flat_map f xs) ≡ length xs * m
 length_each f m [] a = omega arith
 length_each f m (x ∷ xs) a = length-append (f x) (flat_map f xs) ∙ omega (arith, a.0, length_each f m xs a.1, suc-mul (length xs) m)
 
@@ -179,7 +179,7 @@ parts_back ss k None c h = ap (parts ss k) (all_none (plus None) c refl (sym h))
 parts_back ss k (Some v) c h = parts_later ss k v c
 
 -- the parts of a chart put together of pieces
-pub parts_each : {A : Type 0} (f : A → Chart) (s : ℕ) (ss : List ℕ) (k : ℕ) (w : Time) (xs : List A) → length xs ≡ s → All (λ x. length (f x) ≡ size ss) xs → zeroed w ≡ least (flat_map f xs) → parts (s ∷ ss) k (later w (flat_map f xs)) ≡ record { fixed = k; chart = flat_map f xs } ∷ flat_map (λ x. parts ss (k + 1) (f x)) xs
+pub parts_each : {A : Type 0} (f : A → Chart) (s : ℕ) (ss : List ℕ) (k : ℕ) (w : Time) (xs : List A) → length xs ≡ s → AllByRecursion (λ x. length (f x) ≡ size ss) xs → zeroed w ≡ least (flat_map f xs) → parts (s ∷ ss) k (later w (flat_map f xs)) ≡ record { fixed = k; chart = flat_map f xs } ∷ flat_map (λ x. parts ss (k + 1) (f x)) xs
 parts_each f s ss k w xs n a h =
     let p = lowered_zeroed w (flat_map f xs) h in
     let q : flat_map (parts ss (k + 1)) (pieces s (size ss) (flat_map f xs)) ≡ flat_map (λ x. parts ss (k + 1) (f x)) xs =

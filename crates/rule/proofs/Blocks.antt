@@ -1,6 +1,6 @@
 -- What the calls of one move hang. Assumes nothing.
 use Rattle.std.proofs.Common.{◌≡◌, ℕ, ◌≤◌, Bool, cond, eqb, List, [], ◌∷◌, ◌++◌, length, get_or, set, Some, None, Option, sym, refl, ap, ◌∙◌, subst, arith}
-use Rattle.std.specs.List.{AllByRecursion as All}
+use Rattle.std.specs.List.{AllByRecursion}
 use Rattle.std.proofs.lemmas.List.{set_comm}
 use Rattle.model.specs.Lists.{total}
 use Rattle.model.specs.Scenes.{Shape, Scene, SceneOf}
@@ -49,7 +49,7 @@ module _ (ns : Shape) (few : Few ns) (a b : Option Chart) (rest : Pegs) where
   pub then : (ps : Pegs) {w u : Scene → Time} (cs ds : List Call) → Now (ran ns ps cs) w → ((d e : Option Chart) → Now (ran ns (a ∷ b ∷ Some (tab ns w) ∷ d ∷ e ∷ rest) ds) u) → Now (ran ns ps (cs ++ ds)) u
   then ps {w} {u} cs ds n f = subst (λ qs. Now qs u) (sym (ran_append ns ps cs ds ∙ ap (λ qs. ran ns qs ds) n.is)) (f n.three n.four)
 
-  effected_ran : (qs : List Pair) → All (Within ns) qs → (w : Scene → Time) (d e : Option Chart) →
+  effected_ran : (qs : List Pair) → AllByRecursion (Within ns) qs → (w : Scene → Time) (d e : Option Chart) →
       Now (ran ns (a ∷ b ∷ Some (tab ns w) ∷ d ∷ e ∷ rest) (effected qs)) (λ s. w (taken qs s))
   effected_ran [] h w d e = record { three = d; four = e; is = refl }
   effected_ran (q ∷ qs) h w d e =
@@ -62,7 +62,7 @@ module _ (ns : Shape) (few : Few ns) (a b : Option Chart) (rest : Pegs) where
       zipped plus (tab ns w) (dialled ns v (entries f)) ≡ tab ns (λ s. plus (w s) (f (get_or s v 0)))
   added v f w = ap (zipped plus (tab ns w)) (tab_dialled ns few v f) ∙ tab_zipped ns plus w (λ s. f (get_or s v 0))
 
-  conditioned_ran : (qs : List Pair) → All (Within ns) qs → (w : Scene → Time) (d e : Option Chart) →
+  conditioned_ran : (qs : List Pair) → AllByRecursion (Within ns) qs → (w : Scene → Time) (d e : Option Chart) →
       Now (ran ns (a ∷ b ∷ Some (tab ns w) ∷ d ∷ e ∷ rest) (conditioned qs)) (λ s. cond (all_hold s qs) (w s) None)
   conditioned_ran [] h w d e = record { three = d; four = e; is = refl }
   conditioned_ran (q ∷ qs) h w d e =
@@ -86,7 +86,7 @@ module _ (ns : Shape) (few : Few ns) (a b : Option Chart) (rest : Pegs) where
   dearer_is : (x : ℕ) (q : Pair) → Within ns q → (s : Scene) → SceneOf ns s → dearer x q.setting (get_or s q.device 0) ≡ Some (cond (holds s q) x 0)
   dearer_is x q h s l = cond_some (eqb (get_or s q.device 0) q.setting) x ∙ ap (λ z. Some (cond z x 0)) (sym (holds_is ns q s h l))
 
-  further_ran : (x : ℕ) (qs : List Pair) → All (Within ns) qs → (w : Scene → Time) (k : Scene → Bool) (e : Option Chart) →
+  further_ran : (x : ℕ) (qs : List Pair) → AllByRecursion (Within ns) qs → (w : Scene → Time) (k : Scene → Bool) (e : Option Chart) →
       Now3 (ran ns (a ∷ b ∷ Some (tab ns w) ∷ Some (tab ns (λ s. Some (cond (k s) x 0))) ∷ e ∷ rest) (further x qs)) w (λ s. Some (cond (both (k s) (all_hold s qs)) x 0))
   further_ran x [] h w k e = now3_as (λ s l. ap (λ z. Some (cond z x 0)) (sym (both_true (k s)))) (record { four = e; is = refl })
   further_ran x (q ∷ qs) h w k e =
@@ -99,7 +99,7 @@ module _ (ns : Shape) (few : Few ns) (a b : Option Chart) (rest : Pegs) where
       subst (λ y. Now3 (ran ns (a ∷ b ∷ Some (tab ns w) ∷ Some y ∷ Some c ∷ rest) (further x qs)) w (λ s. Some (cond (both (k s) (all_hold s (q ∷ qs))) x 0))) (sym m)
       (now3_as (λ s l. ap (λ z. Some (cond z x 0)) (both_assoc (k s) (holds s q) (all_hold s qs))) (further_ran x qs h.1 w (λ s. both (k s) (holds s q)) (Some c)))
 
-  tested_ran : (x : ℕ) (qs : List Pair) → 1 ≤ length qs → All (Within ns) qs → (w : Scene → Time) (d e : Option Chart) →
+  tested_ran : (x : ℕ) (qs : List Pair) → 1 ≤ length qs → AllByRecursion (Within ns) qs → (w : Scene → Time) (d e : Option Chart) →
       Now3 (ran ns (a ∷ b ∷ Some (tab ns w) ∷ d ∷ e ∷ rest) (tested x qs)) w (λ s. Some (cond (all_hold s qs) x 0))
   tested_ran x [] some h w d e = absurd (omega arith)
   tested_ran x (q ∷ qs) some h w d e =
@@ -107,7 +107,7 @@ module _ (ns : Shape) (few : Few ns) (a b : Option Chart) (rest : Pegs) where
       (sym (tab_dialled ns few q.device (dearer x q.setting) ∙ tab_as ns _ _ (λ s l. dearer_is x q h.0 s l)))
       (further_ran x qs h.1 w (λ s. holds s q) e)
 
-  surcharged_ran : (xs : List Surcharge) → All (LawfulSurcharge ns) xs → (w : Scene → Time) (d e : Option Chart) →
+  surcharged_ran : (xs : List Surcharge) → AllByRecursion (LawfulSurcharge ns) xs → (w : Scene → Time) (d e : Option Chart) →
       Now (ran ns (a ∷ b ∷ Some (tab ns w) ∷ d ∷ e ∷ rest) (surcharged xs)) (λ s. later (total (charged s) xs) (w s))
   surcharged_ran [] h w d e = now_as (λ s l. sym (later_zero (w s))) (record { three = d; four = e; is = refl })
   surcharged_ran (x ∷ xs) h w d e =

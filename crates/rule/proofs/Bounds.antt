@@ -1,7 +1,7 @@
 -- How great the times of a chart can be after a call. Assumes nothing.
 use Rattle.std.proofs.Common.{◌≡◌, ℕ, zero, suc, ◌+◌, ◌^◌, ◌<◌, ◌≤◌, false, List, [], ◌∷◌, length, get_or, take, set, Some, None, refl, mul-le-mul, arith}
 use native.Mathlib.Nat.{pow-succ', pow-le-pow_right}
-use Rattle.std.specs.List.{range_with_len, AllByRecursion as All}
+use Rattle.std.specs.List.{range_with_len, AllByRecursion}
 use Rattle.std.proofs.ByRecursion.{All-map, All-take, All-weaker}
 use Rattle.std.proofs.lemmas.Bool.{le-ltb, or_from}
 use Rattle.model.specs.Limits.{most_settings, most_devices, greatest_time}
@@ -19,7 +19,7 @@ Upto b (Some t) = t ≤ b
 
 -- each entry of the chart is
 abbrev pub Most : ℕ → List Time → Type 0
-Most b = All (Upto b)
+Most b = AllByRecursion (Upto b)
 
 upto_more : (a b : ℕ) → a ≤ b → (o : Time) → Upto a o → Upto b o
 upto_more a b h None u = tt
@@ -28,7 +28,7 @@ upto_more a b h (Some t) u = omega arith
 pub most_more : (a b : ℕ) → a ≤ b → (c : Chart) → Most a c → Most b c
 most_more a b h c = All-weaker (Upto a) (Upto b) (upto_more a b h) c
 
-everywhere : {X : Type 0} (P : X → Type 0) → ((x : X) → P x) → (xs : List X) → All P xs
+everywhere : {X : Type 0} (P : X → Type 0) → ((x : X) → P x) → (xs : List X) → AllByRecursion P xs
 everywhere P h [] = tt
 everywhere P h (x ∷ xs) = (h x, everywhere P h xs)
 

@@ -1,6 +1,6 @@
 -- The whole rule can be refused for want of room alone. Assumes nothing.
 use Rattle.std.proofs.Common.{◌≡◌, ℕ, zero, suc, ◌+◌, ◌*◌, ◌^◌, ◌≤◌, Bool, true, false, cond, List, [], ◌∷◌, ◌++◌, length, Some, None, Option, sym, refl, ap, ◌∙◌, subst, mul-le-mul_right, arith}
-use Rattle.std.specs.List.{range_with_len, flat_map, AllByRecursion as All}
+use Rattle.std.specs.List.{range_with_len, flat_map, AllByRecursion}
 use Rattle.model.specs.Limits.{greatest_time, most_tenths, most_settings, most_devices, peg_count}
 use Rattle.model.specs.Scenes.{Shape, size}
 use Rattle.model.specs.Charts.{Chart, lesser, plus, zipped, dialled}
@@ -81,7 +81,7 @@ module _ (m : Meaning) (shape : LawfulShape m.shape) (rest : Pegs) where
         };
       }
 
-  moves_leave : (r i : ℕ) (slots : List (Option Move)) → All (LawfulSlot m.shape) slots → (p : Chart) (k : ℕ) → k + most_tenths ≤ greatest_time → Most k p →
+  moves_leave : (r i : ℕ) (slots : List (Option Move)) → AllByRecursion (LawfulSlot m.shape) slots → (p : Chart) (k : ℕ) → k + most_tenths ≤ greatest_time → Most k p →
       (q : Chart) → Most (k + most_tenths) q → (c d e : Option Chart) → LeavesTwo (Some p ∷ Some q ∷ c ∷ d ∷ e ∷ rest) (calls (by_moves r i slots)) p (k + most_tenths)
   moves_leave r i [] law p k small few q most c d e = record { only_room = tt; two = record { chart = q; two = c; three = d; four = e; most = most; is = refl } }
   moves_leave r i (o ∷ slots) law p k small few q most c d e =
@@ -90,7 +90,7 @@ module _ (m : Meaning) (shape : LawfulShape m.shape) (rest : Pegs) where
       (slot_leaves o law.0 p k small few q most c d e)
       (λ q most c d e. moves_leave r (i + 1) slots law.1 p k small few q most c d e))
 
-  pub round_leaves : (r : ℕ) (slots : List (Option Move)) → All (LawfulSlot m.shape) slots → (p : Chart) (k : ℕ) → k + most_tenths ≤ greatest_time → Most k p → (b c d e : Option Chart) →
+  pub round_leaves : (r : ℕ) (slots : List (Option Move)) → AllByRecursion (LawfulSlot m.shape) slots → (p : Chart) (k : ℕ) → k + most_tenths ≤ greatest_time → Most k p → (b c d e : Option Chart) →
       LeavesTwo (Some p ∷ b ∷ c ∷ d ∷ e ∷ rest) (calls (round r slots)) p (k + most_tenths)
   round_leaves r slots law p k small few b c d e =
       let q = zipped lesser p p in
@@ -120,7 +120,7 @@ module _ (m : Meaning) (shape : LawfulShape m.shape) (rest : Pegs) where
         one = subst (λ qs. One qs k) (sym (ran_append m.shape ps cs ds ∙ ap (λ qs. ran m.shape qs ds) n.is)) more.one;
       }
 
-  pub changing_leaves : (r : ℕ) (slots : List (Option Move)) → All (LawfulSlot m.shape) slots → (p : Chart) (k : ℕ) → k + most_tenths ≤ greatest_time → Most k p → (b c d e : Option Chart) →
+  pub changing_leaves : (r : ℕ) (slots : List (Option Move)) → AllByRecursion (LawfulSlot m.shape) slots → (p : Chart) (k : ℕ) → k + most_tenths ≤ greatest_time → Most k p → (b c d e : Option Chart) →
       LeavesOne (Some p ∷ b ∷ c ∷ d ∷ e ∷ rest) (calls (changing slots r)) (k + most_tenths)
   changing_leaves r slots law p k small few b c d e =
       let ps : Pegs = Some p ∷ b ∷ c ∷ d ∷ e ∷ rest in
@@ -144,7 +144,7 @@ module _ (m : Meaning) (shape : LawfulShape m.shape) (rest : Pegs) where
       })
 
   -- n rounds more
-  pub rounds_leave : (slots : List (Option Move)) → All (LawfulSlot m.shape) slots → (j n : ℕ) (p : Chart) (k : ℕ) → k + n * most_tenths ≤ greatest_time → Most k p → (b c d e : Option Chart) →
+  pub rounds_leave : (slots : List (Option Move)) → AllByRecursion (LawfulSlot m.shape) slots → (j n : ℕ) (p : Chart) (k : ℕ) → k + n * most_tenths ≤ greatest_time → Most k p → (b c d e : Option Chart) →
       LeavesOne (Some p ∷ b ∷ c ∷ d ∷ e ∷ rest) (calls (flat_map (changing slots) (range_with_len j n))) (k + n * most_tenths)
   rounds_leave slots law j zero p k small few b c d e =
       record { only_room = tt; one = record { chart = p; one = b; two = c; three = d; four = e; most = most_more k (k + 0 * most_tenths) (omega arith) p few; is = refl } }
@@ -178,7 +178,7 @@ module _ (m : Meaning) (shape : LawfulShape m.shape) (rest : Pegs) where
         one = more.one;
       }
 
-  pub start_leaves : (slots : List (Option Move)) → All (LawfulSlot m.shape) slots → (masks : List ℕ) → length masks ≡ length m.shape → (n : ℕ) → 0 + n * most_tenths ≤ greatest_time →
+  pub start_leaves : (slots : List (Option Move)) → AllByRecursion (LawfulSlot m.shape) slots → (masks : List ℕ) → length masks ≡ length m.shape → (n : ℕ) → 0 + n * most_tenths ≤ greatest_time →
       (a b c d e : Option Chart) → LeavesOne (a ∷ b ∷ c ∷ d ∷ e ∷ rest) (calls (start slots masks n)) (0 + n * most_tenths)
   start_leaves slots law masks h n small a b c d e =
       subst (λ cs. LeavesOne (a ∷ b ∷ c ∷ d ∷ e ∷ rest) cs (0 + n * most_tenths)) (calls_block 0 None (round_0 masks) (flat_map (changing slots) (range_with_len 1 n)))
@@ -197,7 +197,7 @@ pub so_far_unrefused : (c : Contents) → Lawful c → (m : Meaning) → m.shape
 so_far_unrefused c law m same long n le =
     let told = contents_told c law in
     let shape : LawfulShape m.shape = subst LawfulShape (sym same) told.shape in
-    let slots : All (LawfulSlot m.shape) c.slots = subst (λ ns. All (LawfulSlot ns) c.slots) (sym same) told.each_slot in
+    let slots : AllByRecursion (LawfulSlot m.shape) c.slots = subst (λ ns. AllByRecursion (LawfulSlot ns) c.slots) (sym same) told.each_slot in
     let masks : length c.masks ≡ length m.shape = told.as_many_masks ∙ ap length (sym same) in
     let small : n * most_tenths + most_tenths ≤ greatest_time = small_enough c.settings n told.shape le in
     let k = five m.pegs long in

@@ -1,6 +1,6 @@
 -- Calls of which no refusal but "no room" can hold. Assumes nothing.
 use Rattle.std.proofs.Common.{◌≡◌, ℕ, ◌<◌, ◌≤◌, false, ◌&&◌, ◌||◌, ltb, leb, ◌⊎◌, List, [], ◌∷◌, ◌++◌, length, get_or, take, None, Err, refl, ap, ◌∙◌, subst, inl, inr, arith}
-use Rattle.std.specs.List.{AllByRecursion as All}
+use Rattle.std.specs.List.{AllByRecursion}
 use Rattle.std.proofs.lemmas.List.{get_or-set_other}
 use Rattle.std.proofs.lemmas.Bool.{lt-leb, and_right, cond-false}
 use Rattle.model.specs.Lists.{In, some}
@@ -13,17 +13,17 @@ use Rattle.rule.specs.Steps.{Step, calls}
 use Rattle.rule.specs.Running.{ran, after_steps, OnlyRoom, OnlyRoomIn}
 
 -- where none of the checks before "no room" holds
-others_told : (front : List Check) (n : Check) → n.number ≡ 18 → All (λ k. k.holds ≡ false) front → (k : Check) → In k (front ++ (n ∷ [])) → (k.number ≡ 18) ⊎ (k.holds ≡ false)
+others_told : (front : List Check) (n : Check) → n.number ≡ 18 → AllByRecursion (λ k. k.holds ≡ false) front → (k : Check) → In k (front ++ (n ∷ [])) → (k.number ≡ 18) ⊎ (k.holds ≡ false)
 others_told [] n e h k (inl same) = inl (ap (λ (x : Check). x.number) same ∙ e)
 others_told [] n e h k (inr none) = absurd none
 others_told (x ∷ xs) n e h k (inl same) = inr (ap (λ (y : Check). y.holds) same ∙ h.0)
 others_told (x ∷ xs) n e h k (inr more) = others_told xs n e h.1 k more
 
-answer_last : (front : List Check) (n : Check) → All (λ k. k.holds ≡ false) front → answer {T = Unit {0}} (front ++ (n ∷ [])) tt ≡ answer (n ∷ []) tt
+answer_last : (front : List Check) (n : Check) → AllByRecursion (λ k. k.holds ≡ false) front → answer {T = Unit {0}} (front ++ (n ∷ [])) tt ≡ answer (n ∷ []) tt
 answer_last [] n h = refl
 answer_last (x ∷ xs) n h = cond-false x.holds (Err x.number) (answer (xs ++ (n ∷ [])) tt) h.0 ∙ answer_last xs n h.1
 
-only : (m : Meaning) (c : Call) (front : List Check) → call_checks m c ≡ front ++ (no_room m c ∷ []) → All (λ k. k.holds ≡ false) front → target c < 5 → OnlyRoom m c
+only : (m : Meaning) (c : Call) (front : List Check) → call_checks m c ≡ front ++ (no_room m c ∷ []) → AllByRecursion (λ k. k.holds ≡ false) front → target c < 5 → OnlyRoom m c
 only m c front e h low = record {
   others = λ k here. others_told front (no_room m c) refl h k (subst (In k) e here);
   answers = ap (λ ks. answer ks tt) e ∙ answer_last front (no_room m c) h;

@@ -1,6 +1,6 @@
 -- What round 0 and a later round hang. Assumes nothing.
 use Rattle.std.proofs.Common.{◌≡◌, ℕ, ◌+◌, ◌≤◌, cond, List, [], ◌∷◌, ◌++◌, length, get_or, drop, Some, None, Option, sym, refl, ap, ◌∙◌, subst, arith}
-use Rattle.std.specs.List.{AllByRecursion as All}
+use Rattle.std.specs.List.{AllByRecursion}
 use Rattle.std.proofs.lemmas.List.{drop_more}
 use Rattle.model.specs.Scenes.{Shape, Scene, SceneOf}
 use Rattle.model.specs.Charts.{Time, Chart, lesser, plus, zipped, dialled}
@@ -44,7 +44,7 @@ module _ (ns : Shape) (few : Few ns) (rest : Pegs) where
   both_as {ps} {v} {u} {w} h n =
       record { two = n.two; three = n.three; four = n.four; is = n.is ∙ ap (λ c. Some (tab ns v) ∷ Some c ∷ n.two ∷ n.three ∷ n.four ∷ rest) (tab_as ns u w h) }
 
-  by_moves_ran : (r i : ℕ) (slots : List (Option Move)) → All (LawfulSlot ns) slots → (v u : Scene → Time) (c d e : Option Chart) →
+  by_moves_ran : (r i : ℕ) (slots : List (Option Move)) → AllByRecursion (LawfulSlot ns) slots → (v u : Scene → Time) (c d e : Option Chart) →
       Both (ran ns (Some (tab ns v) ∷ Some (tab ns u) ∷ c ∷ d ∷ e ∷ rest) (calls (by_moves r i slots))) v (λ s. best (u s) (table_of slots) v s)
   by_moves_ran r i [] law v u c d e = record { two = c; three = d; four = e; is = refl }
   by_moves_ran r i (None ∷ slots) law v u c d e =
@@ -65,7 +65,7 @@ module _ (ns : Shape) (few : Few ns) (rest : Pegs) where
   copied : (v : Scene → Time) → zipped lesser (tab ns v) (tab ns v) ≡ tab ns v
   copied v = tab_zipped ns lesser v v ∙ tab_as ns _ _ (λ s l. lesser_same (v s))
 
-  pub round_ran : (r : ℕ) (slots : List (Option Move)) → All (LawfulSlot ns) slots → (v : Scene → Time) (b c d e : Option Chart) →
+  pub round_ran : (r : ℕ) (slots : List (Option Move)) → AllByRecursion (LawfulSlot ns) slots → (v : Scene → Time) (b c d e : Option Chart) →
       Both (ran ns (Some (tab ns v) ∷ b ∷ c ∷ d ∷ e ∷ rest) (calls (round r slots))) v (relax (table_of slots) v)
   round_ran r slots law v b c d e =
       subst (λ x. Both (ran ns (Some (tab ns v) ∷ Some x ∷ c ∷ d ∷ e ∷ rest) (calls (by_moves r 0 slots))) v (relax (table_of slots) v)) (sym (copied v))
@@ -80,7 +80,7 @@ module _ (ns : Shape) (few : Few ns) (rest : Pegs) where
     pub is : ps ≡ Some x ∷ one ∷ two ∷ three ∷ four ∷ rest
 
   -- a round that is followed by the copy
-  pub changing_ran : (r : ℕ) (slots : List (Option Move)) → All (LawfulSlot ns) slots → (v : Scene → Time) (b c d e : Option Chart) →
+  pub changing_ran : (r : ℕ) (slots : List (Option Move)) → AllByRecursion (LawfulSlot ns) slots → (v : Scene → Time) (b c d e : Option Chart) →
       Front (ran ns (Some (tab ns v) ∷ b ∷ c ∷ d ∷ e ∷ rest) (calls (changing slots r))) (tab ns (relax (table_of slots) v))
   changing_ran r slots law v b c d e =
       let n = round_ran r slots law v b c d e in

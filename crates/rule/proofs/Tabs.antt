@@ -1,6 +1,6 @@
 -- Charts that functions make, and the laws of entries. Assumes nothing.
 use Rattle.std.proofs.Common.{◌≡◌, ℕ, zero, suc, ◌+◌, ◌<◌, ◌≤◌, min, Bool, true, false, cond, ◌&&◌, eqb, ltb, List, [], ◌∷◌, map, length, get_or, set, Some, None, refl, ap, arith}
-use Rattle.std.specs.List.{AllByRecursion as All}
+use Rattle.std.specs.List.{AllByRecursion}
 use Rattle.std.proofs.lemmas.List.FromFn.{get_or-map-range_with_len}
 use Rattle.std.proofs.lemmas.Bool.{lt-ltb, cond-true}
 use Rattle.model.specs.Limits.{most_settings}
@@ -15,7 +15,7 @@ use Rattle.rule.specs.Bridge.{tab}
 
 -- no device has more settings than the entries that are dialled
 abbrev pub Few : Shape → Type 0
-Few = All (λ n. n ≤ most_settings)
+Few = AllByRecursion (λ n. n ≤ most_settings)
 
 pub setting_few : (ns : Shape) (s : Scene) (v : ℕ) → Few ns → SceneOf ns s → get_or s v 0 < most_settings
 setting_few [] [] v e l = omega arith

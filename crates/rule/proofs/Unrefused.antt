@@ -1,6 +1,6 @@
 -- The calls of one move can be refused for want of room alone, and keep its times small. Assumes nothing.
 use Rattle.std.proofs.Common.{◌≡◌, ℕ, ◌+◌, ◌<◌, ◌≤◌, Bool, true, false, cond, eqb, List, [], ◌∷◌, ◌++◌, length, get_or, Some, None, Option, sym, refl, ap, ◌∙◌, subst, arith}
-use Rattle.std.specs.List.{AllByRecursion as All}
+use Rattle.std.specs.List.{AllByRecursion}
 use Rattle.std.proofs.lemmas.List.{append_assoc}
 use Rattle.model.specs.Limits.{greatest_time, most_tenths}
 use Rattle.model.specs.Lists.{total}
@@ -72,7 +72,7 @@ module _ (m : Meaning) (a b : Option Chart) (rest : Pegs) where
         kept = subst (λ qs. Kept qs k) (sym (ran_append m.shape ps cs ds ∙ ap (λ qs. ran m.shape qs ds) n.is)) two.kept;
       }
 
-  effected_unrefused : (qs : List Pair) → All (Within m.shape) qs → (w : ℕ) → Block (effected qs) w w
+  effected_unrefused : (qs : List Pair) → AllByRecursion (Within m.shape) qs → (w : ℕ) → Block (effected qs) w w
   effected_unrefused [] h w x most d e = nothing w w (omega arith) x most d e
   effected_unrefused (q ∷ qs) h w x most d e =
       let more = effected_unrefused qs h.1 w (put_chart m.shape q.device q.setting x) (most_put w m.shape q.device q.setting x most) d e in
@@ -91,7 +91,7 @@ module _ (m : Meaning) (a b : Option Chart) (rest : Pegs) where
         kept = record { chart = zipped plus x y; three = Some y; four = e; most = most_sum w t x y most few; is = refl };
       }
 
-  conditioned_unrefused : (qs : List Pair) → All (Within m.shape) qs → (w : ℕ) → w ≤ greatest_time → Block (conditioned qs) w w
+  conditioned_unrefused : (qs : List Pair) → AllByRecursion (Within m.shape) qs → (w : ℕ) → w ≤ greatest_time → Block (conditioned qs) w w
   conditioned_unrefused [] h w small = nothing w w (omega arith)
   conditioned_unrefused (q ∷ qs) h w small =
       let z : w + 0 ≡ w = omega arith in
@@ -109,7 +109,7 @@ module _ (m : Meaning) (a b : Option Chart) (rest : Pegs) where
     most : Most t chart
     is : ps ≡ a ∷ b ∷ Some x ∷ Some chart ∷ four ∷ rest
 
-  further_unrefused : (t : ℕ) (qs : List Pair) → All (Within m.shape) qs → t ≤ greatest_time → (x y : Chart) → Most t y → (e : Option Chart) →
+  further_unrefused : (t : ℕ) (qs : List Pair) → AllByRecursion (Within m.shape) qs → t ≤ greatest_time → (x y : Chart) → Most t y → (e : Option Chart) →
       OnlyRoomIn (with_pegs m (a ∷ b ∷ Some x ∷ Some y ∷ e ∷ rest)) (further t qs) × Third (ran m.shape (a ∷ b ∷ Some x ∷ Some y ∷ e ∷ rest) (further t qs)) x t
   further_unrefused t [] h small x y most e = (tt, record { chart = y; four = e; most = most; is = refl })
   further_unrefused t (q ∷ qs) h small x y most e =
@@ -124,7 +124,7 @@ module _ (m : Meaning) (a b : Option Chart) (rest : Pegs) where
         more.1,
       )
 
-  tested_unrefused : (t : ℕ) (qs : List Pair) → 1 ≤ length qs → All (Within m.shape) qs → t ≤ greatest_time → (x : Chart) (d e : Option Chart) →
+  tested_unrefused : (t : ℕ) (qs : List Pair) → 1 ≤ length qs → AllByRecursion (Within m.shape) qs → t ≤ greatest_time → (x : Chart) (d e : Option Chart) →
       OnlyRoomIn (with_pegs m (a ∷ b ∷ Some x ∷ d ∷ e ∷ rest)) (tested t qs) × Third (ran m.shape (a ∷ b ∷ Some x ∷ d ∷ e ∷ rest) (tested t qs)) x t
   tested_unrefused t [] some h small x d e = absurd (omega arith)
   tested_unrefused t (q ∷ qs) some h small x d e =
@@ -153,7 +153,7 @@ module _ (m : Meaning) (a b : Option Chart) (rest : Pegs) where
         };
       }
 
-  surcharged_unrefused : (xs : List Surcharge) → All (LawfulSurcharge m.shape) xs → (w : ℕ) → w + total extra xs ≤ greatest_time → Block (surcharged xs) w (w + total extra xs)
+  surcharged_unrefused : (xs : List Surcharge) → AllByRecursion (LawfulSurcharge m.shape) xs → (w : ℕ) → w + total extra xs ≤ greatest_time → Block (surcharged xs) w (w + total extra xs)
   surcharged_unrefused [] h w small = nothing w (w + 0) (omega arith)
   surcharged_unrefused (x ∷ xs) h w small =
       let z : w + x.extra + total extra xs ≡ w + (x.extra + total extra xs) = omega arith in

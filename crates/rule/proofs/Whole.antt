@@ -1,6 +1,6 @@
 -- What the whole rule leaves on the pegs. Assumes nothing.
 use Rattle.std.proofs.Common.{◌≡◌, ℕ, zero, suc, ◌+◌, ◌≤◌, Bool, List, [], ◌∷◌, length, get_or, Some, None, Option, sym, refl, ap, ◌∙◌, subst, arith}
-use Rattle.std.specs.List.{range_with_len, flat_map, AllByRecursion as All}
+use Rattle.std.specs.List.{range_with_len, flat_map, AllByRecursion}
 use Rattle.model.specs.Limits.{peg_count}
 use Rattle.model.specs.Scenes.{Shape, Scene}
 use Rattle.model.specs.Charts.{Time, Chart, at}
@@ -29,7 +29,7 @@ pub rounds_tab : (ns : Shape) (acts : Table) (goal : Scene → Bool) (r : ℕ) �
 rounds_tab ns acts goal zero = tab_as ns _ _ (λ s l. sym (tabulated ns (initial goal) s l))
 rounds_tab ns acts goal (suc r) = tab_as ns _ _ (λ s l. sym (tabulated ns (relax acts (at ns (rounds ns acts goal r))) s l))
 
-module _ (ns : Shape) (few : Few ns) (slots : List (Option Move)) (law : All (LawfulSlot ns) slots) (masks : List ℕ) where
+module _ (ns : Shape) (few : Few ns) (slots : List (Option Move)) (law : AllByRecursion (LawfulSlot ns) slots) (masks : List ℕ) where
   abbrev chart : ℕ → Chart
   chart = rounds ns (table_of slots) (wanted masks)
 

@@ -6,62 +6,42 @@ ghost use Rattle.rule.specs.Bridge.{MovesTried, RoundsRun, StartsRun, RoundsShow
 ghost use Rattle.rule.specs.Bridge.{RuleGoesOn, RuleRight, RuleOnlyRoom};
 ghost use Rattle.rule.specs.Running.{OverfillingTold};
 
-pub fn moves_are_tried() -> u8
+pub fn moves_are_tried()
     ensures { MovesTried }
-{
-    0
-}
+{}
 
-pub fn rounds_are_run() -> u8
+pub fn rounds_are_run()
     ensures { RoundsRun }
-{
-    0
-}
+{}
 
-pub fn starts_are_run() -> u8
+pub fn starts_are_run()
     ensures { StartsRun }
-{
-    0
-}
+{}
 
-pub fn rounds_are_shown() -> u8
+pub fn rounds_are_shown()
     ensures { RoundsShown }
-{
-    0
-}
+{}
 
-pub fn rounds_are_counted() -> u8
+pub fn rounds_are_counted()
     ensures { RoundsCounted }
-{
-    0
-}
+{}
 
-pub fn alike_contents_count_the_same_rounds() -> u8
+pub fn alike_contents_count_the_same_rounds()
     ensures { CountsAlike }
-{
-    0
-}
+{}
 
-pub fn rule_goes_on_while_rounds_count() -> u8
+pub fn rule_goes_on_while_rounds_count()
     ensures { RuleGoesOn }
-{
-    0
-}
+{}
 
-pub fn rule_is_right() -> u8
+pub fn rule_is_right()
     ensures { RuleRight }
-{
-    0
-}
+{}
 
-pub fn rule_is_refused_for_room_alone() -> u8
+pub fn rule_is_refused_for_room_alone()
     ensures { RuleOnlyRoom }
-{
-    0
-}
+{}
 
-pub fn first_overfilling_is_told() -> u8
+pub fn first_overfilling_is_told()
     ensures { OverfillingTold }
-{
-    0
-}
+{}

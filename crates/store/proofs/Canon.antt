@@ -1,7 +1,7 @@
 -- In a store an edge is known by its chart, and a node by its part. Assumes nothing.
 use Rattle.std.proofs.Common.{◌≡◌, ℕ, ◌+◌, ◌*◌, ◌<◌, true, false, List, [], ◌∷◌, ◌++◌, length, take, drop, is_some, Some, None, Option, sym, refl, ap, ◌∙◌, subst, inl, inr, arith, take-append-drop}
 use lib.ListN.{length-map}
-use Rattle.std.specs.List.{AllByRecursion as All, flat_map}
+use Rattle.std.specs.List.{AllByRecursion, flat_map}
 use Rattle.std.proofs.lemmas.Bool.{both_ways, cases_lt}
 use Rattle.std.proofs.lemmas.List.{take_at, drop_at, drop-drop, get_or_past}
 use Rattle.table.specs.Tables.{slot}
@@ -43,7 +43,7 @@ plus_zeroed : (w : Time) → plus w (zeroed w) ≡ w
 plus_zeroed None = refl
 plus_zeroed (Some w) = ap {B = Time} Some (omega arith)
 
-lowest_each : (f : Edge → Chart) (es : List Edge) → All (λ e. least (f e) ≡ e.weight) es → least (flat_map f es) ≡ lowest es
+lowest_each : (f : Edge → Chart) (es : List Edge) → AllByRecursion (λ e. least (f e) ≡ e.weight) es → least (flat_map f es) ≡ lowest es
 lowest_each f [] a = refl
 lowest_each f (e ∷ es) a = least_append (f e) (flat_map f es) ∙ ap (λ v. lesser v (least (flat_map f es))) a.0 ∙ ap (lesser e.weight) (lowest_each f es a.1)
 
@@ -54,8 +54,8 @@ pub record Known (nodes : List (Option Node)) (ns : Shape) (e : Edge) : Type 0 w
   pub high : greatest (chart nodes ns e) ≡ plus e.weight (below nodes ns e)
 
 -- of a node's, by what is known of its edges
-module _ (nodes : List (Option Node)) (n : ℕ) (ns : Shape) (es : List Edge) (known : All (Known nodes ns) es) where
-  pub kids_long : All (λ e. length (chart nodes ns e) ≡ size ns) es
+module _ (nodes : List (Option Node)) (n : ℕ) (ns : Shape) (es : List Edge) (known : AllByRecursion (Known nodes ns) es) where
+  pub kids_long : AllByRecursion (λ e. length (chart nodes ns e) ≡ size ns) es
   kids_long = all_map (Known nodes ns) (λ e. length (chart nodes ns e) ≡ size ns) es (λ e k. k.long) known
 
   pub body_long : length es ≡ n → length (flat_map (chart nodes ns) es) ≡ n * size ns
@@ -67,7 +67,7 @@ module _ (nodes : List (Option Node)) (n : ℕ) (ns : Shape) (es : List Edge) (k
   pub body_high : greatest (flat_map (chart nodes ns) es) ≡ highest nodes ns es
   body_high = highest_joined nodes ns (chart nodes ns) es (all_map (Known nodes ns) (λ e. greatest (chart nodes ns e) ≡ plus e.weight (below nodes ns e)) es (λ e k. k.high) known)
 
-same_kids : (f : Edge → Chart) (m : ℕ) (P : Edge → Type 0) (es fs : List Edge) → length es ≡ length fs → All P es → All P fs → All (λ e. length (f e) ≡ m) es → All (λ e. length (f e) ≡ m) fs → flat_map f es ≡ flat_map f fs → ((a b : Edge) → P a → P b → f a ≡ f b → a ≡ b) → es ≡ fs
+same_kids : (f : Edge → Chart) (m : ℕ) (P : Edge → Type 0) (es fs : List Edge) → length es ≡ length fs → AllByRecursion P es → AllByRecursion P fs → AllByRecursion (λ e. length (f e) ≡ m) es → AllByRecursion (λ e. length (f e) ≡ m) fs → flat_map f es ≡ flat_map f fs → ((a b : Edge) → P a → P b → f a ≡ f b → a ≡ b) → es ≡ fs
 same_kids f m P [] [] n p q a b h same = refl
 same_kids f m P [] (y ∷ ys) n p q a b h same = absurd (omega arith)
 same_kids f m P (x ∷ xs) [] n p q a b h same = absurd (omega arith)
@@ -84,8 +84,8 @@ module _ (nodes : List (Option Node)) (shape : Shape) (store : Store nodes shape
   pub led : (l n : ℕ) (ns : Shape) (e : Edge) → drop l shape ≡ n ∷ ns → Leads nodes n l e → Formed nodes n ns (node_at nodes e.child)
   led l n ns e at f = formed_at e.child l n ns (node_at nodes e.child) at (some_at nodes e.child f.here) f.deep
 
-  pub kids_of : (l n : ℕ) (ns : Shape) (e : Edge) → drop l shape ≡ n ∷ ns → Leads nodes n l e → All (Fine nodes ns (l + 1)) (take n (node_at nodes e.child).edges)
-  kids_of l n ns e at f = subst (λ j. All (Fine nodes ns (j + 1)) (take n (node_at nodes e.child).edges)) f.deep (led l n ns e at f).kids
+  pub kids_of : (l n : ℕ) (ns : Shape) (e : Edge) → drop l shape ≡ n ∷ ns → Leads nodes n l e → AllByRecursion (Fine nodes ns (l + 1)) (take n (node_at nodes e.child).edges)
+  kids_of l n ns e at f = subst (λ j. AllByRecursion (Fine nodes ns (j + 1)) (take n (node_at nodes e.child).edges)) f.deep (led l n ns e at f).kids
 
   pub knows : (ns : Shape) (l : ℕ) (e : Edge) → drop l shape ≡ ns → Fine nodes ns l e → Known nodes ns e
   knows [] l e at f = record { long = refl; low = lesser_none e.weight; high = greater_none e.weight ∙ sym (plus_zero e.weight) }
@@ -100,7 +100,7 @@ module _ (nodes : List (Option Node)) (shape : Shape) (store : Store nodes shape
         high = greatest_later e.weight (flat_map (chart nodes ns) es) ∙ ap (plus e.weight) (body_high nodes n ns es known ∙ sym w.high);
       }
 
-  pub knows_kids : (l n : ℕ) (ns : Shape) (es : List Edge) → drop l shape ≡ n ∷ ns → All (Fine nodes ns (l + 1)) es → All (Known nodes ns) es
+  pub knows_kids : (l n : ℕ) (ns : Shape) (es : List Edge) → drop l shape ≡ n ∷ ns → AllByRecursion (Fine nodes ns (l + 1)) es → AllByRecursion (Known nodes ns) es
   knows_kids l n ns es at a = all_map (Fine nodes ns (l + 1)) (Known nodes ns) es (λ k g. knows ns (l + 1) k (tail_of shape l n ns at) g) a
 
   -- the chart of an edge, lowered, is that of its node
@@ -115,8 +115,8 @@ module _ (nodes : List (Option Node)) (shape : Shape) (store : Store nodes shape
   same_node l n ns x y at dx dy fx fy same h =
       let xs = take n x.edges in
       let ys = take n y.edges in
-      let ax = subst (λ j. All (Fine nodes ns (j + 1)) xs) dx fx.kids in
-      let ay = subst (λ j. All (Fine nodes ns (j + 1)) ys) dy fy.kids in
+      let ax = subst (λ j. AllByRecursion (Fine nodes ns (j + 1)) xs) dx fx.kids in
+      let ay = subst (λ j. AllByRecursion (Fine nodes ns (j + 1)) ys) dy fy.kids in
       let p = same_kids (chart nodes ns) (size ns) (Fine nodes ns (l + 1)) xs ys (fx.wide ∙ sym fy.wide) ax ay (kids_long nodes n ns xs (knows_kids l n ns xs at ax)) (kids_long nodes n ns ys (knows_kids l n ns ys at ay)) h same in
       let q = fx.rest ∙ sym fy.rest in
       node_path x y (dx ∙ sym dy) (fx.high ∙ ap (highest nodes ns) p ∙ sym fy.high) (sym (take-append-drop n x.edges) ∙ (λ i. p i ++ q i) ∙ take-append-drop n y.edges)

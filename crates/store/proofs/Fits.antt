@@ -1,6 +1,6 @@
 -- The parts of the charts of edges, and the slots of a store. Assumes nothing.
 use Rattle.std.proofs.Common.{◌≡◌, ℕ, ◌+◌, ◌<◌, List, [], ◌∷◌, map, length, take, drop, is_some, Some, Option, sym, refl, ap, ◌∙◌, subst, inl, inr}
-use Rattle.std.specs.List.{AllByRecursion as All, flat_map}
+use Rattle.std.specs.List.{AllByRecursion, flat_map}
 use Rattle.table.specs.Tables.{slot}
 use Rattle.nodes.specs.declared.edge.Edge.{Edge}
 use Rattle.nodes.specs.declared.node.Node.{Node}
@@ -55,7 +55,7 @@ module _ (nodes : List (Option Node)) (shape : Shape) where
 
 -- No room, exactly
 
-reached_all : (nodes : List (Option Node)) (shape : Shape) → Store nodes shape → (edges : List Edge) → All (Fine nodes shape 0) edges → (p : Part) → In p (flat_map (parts shape 0) (map (chart nodes shape) edges)) → (k : ℕ) × (k < length nodes) × (p ≡ name nodes shape k)
+reached_all : (nodes : List (Option Node)) (shape : Shape) → Store nodes shape → (edges : List Edge) → AllByRecursion (Fine nodes shape 0) edges → (p : Part) → In p (flat_map (parts shape 0) (map (chart nodes shape) edges)) → (k : ℕ) × (k < length nodes) × (p ≡ name nodes shape k)
 reached_all nodes shape store edges fine p i =
     let r = in_each (λ e. parts shape 0 (chart nodes shape e)) p edges (subst (In p) (each_map (parts shape 0) (chart nodes shape) edges) i) in
     reached nodes shape store shape 0 r.0 refl (all_in (Fine nodes shape 0) r.0 edges fine r.1) p r.2

@@ -1,6 +1,6 @@
 -- The greatest times of charts that are later throughout, or put together of pieces. Assumes nothing.
 use Rattle.std.proofs.Common.{◌≡◌, List, [], ◌∷◌, ◌++◌, Some, None, Option, sym, refl, ap, ◌∙◌, arith}
-use Rattle.std.specs.List.{AllByRecursion as All, flat_map}
+use Rattle.std.specs.List.{AllByRecursion, flat_map}
 use Rattle.nodes.specs.declared.edge.Edge.{Edge}
 use Rattle.nodes.specs.declared.node.Node.{Node}
 use Rattle.model.specs.Charts.{Time, Chart, plus, greater, greatest}
@@ -36,7 +36,7 @@ greatest_append [] d = refl
 greatest_append (x ∷ xs) d = ap (greater x) (greatest_append xs d) ∙ sym (greater_assoc x (greatest xs) (greatest d))
 
 -- the greatest time of pieces, by that of each
-pub highest_joined : (nodes : List (Option Node)) (ns : Shape) (f : Edge → Chart) (es : List Edge) → All (λ e. greatest (f e) ≡ plus e.weight (below nodes ns e)) es → greatest (flat_map f es) ≡ highest nodes ns es
+pub highest_joined : (nodes : List (Option Node)) (ns : Shape) (f : Edge → Chart) (es : List Edge) → AllByRecursion (λ e. greatest (f e) ≡ plus e.weight (below nodes ns e)) es → greatest (flat_map f es) ≡ highest nodes ns es
 highest_joined nodes ns f [] a = refl
 highest_joined nodes ns f (e ∷ es) a =
     greatest_append (f e) (flat_map f es) ∙ ap (λ v. greater v (greatest (flat_map f es))) a.0

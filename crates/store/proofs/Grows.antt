@@ -1,6 +1,6 @@
 -- A store that only grows. Assumes nothing.
 use Rattle.std.proofs.Common.{◌≡◌, ℕ, ◌+◌, true, List, [], ◌∷◌, ◌++◌, take, drop, is_some, Some, Option, sym, refl, ap, ◌∙◌}
-use Rattle.std.specs.List.{AllByRecursion as All, flat_map}
+use Rattle.std.specs.List.{AllByRecursion, flat_map}
 use Rattle.table.specs.Tables.{slot, Kept}
 use Rattle.nodes.specs.declared.edge.Edge.{Edge}
 use Rattle.nodes.specs.declared.node.Node.{Node}
@@ -12,7 +12,7 @@ use Rattle.store.specs.Stores.{node_in, node_at, lowest, chart, body, below, hig
 use Rattle.store.specs.Fillings.{name_of, name}
 use Rattle.store.proofs.Canon.{tail_of, some_at, formed_at, kids_of}
 
-each_all : {A B : Type 0} (f g : A → List B) (l : List A) → All (λ x. f x ≡ g x) l → flat_map f l ≡ flat_map g l
+each_all : {A B : Type 0} (f g : A → List B) (l : List A) → AllByRecursion (λ x. f x ≡ g x) l → flat_map f l ≡ flat_map g l
 each_all f g [] a = refl
 each_all f g (x ∷ xs) a = let p = a.0 in let q = each_all f g xs a.1 in λ i. p i ++ q i
 
@@ -37,7 +37,7 @@ module _ (old new : List (Option Node)) (kept : Kept old new) where
   below_kept [] l e f = refl
   below_kept (n ∷ ns) l e f = ap (λ x. x.most) (node_kept e.child f.here)
 
-  pub highest_kept : (ns : Shape) (l : ℕ) (es : List Edge) → All (Fine old ns l) es → highest new ns es ≡ highest old ns es
+  pub highest_kept : (ns : Shape) (l : ℕ) (es : List Edge) → AllByRecursion (Fine old ns l) es → highest new ns es ≡ highest old ns es
   highest_kept ns l [] a = refl
   highest_kept ns l (e ∷ es) a =
       let p = below_kept ns l e a.0 in

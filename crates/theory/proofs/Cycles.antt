@@ -1,6 +1,6 @@
 -- A run with no scene twice is short, so the rounds stop and the times stay small. Assumes nothing.
 use Rattle.std.proofs.Common.{◌≡◌, ℕ, zero, suc, ◌+◌, ◌*◌, ◌<◌, ◌≤◌, Bool, ◌⊎◌, List, [], ◌∷◌, map, length, Some, sym, refl, ap, ◌∙◌, subst, inl, inr, ⊎_elim, mul-le-mul_right, arith}
-use Rattle.std.specs.List.{AllByRecursion as All}
+use Rattle.std.specs.List.{AllByRecursion}
 use Rattle.std.proofs.lemmas.Bool.{cases_eq}
 use Rattle.model.specs.Limits.{most_tenths}
 use Rattle.model.specs.Scenes.{Shape, Scene, SceneOf, size, scenes, rank}
@@ -12,14 +12,14 @@ use Rattle.theory.proofs.Times.{AtMost, of_some, no_later, same_times, relax_kee
 
 -- numbers that are all different, and below n, are at most n
 abbrev pub Absent : ℕ → List ℕ → Type 0
-Absent x = All (λ y. x ≡ y → ⊥)
+Absent x = AllByRecursion (λ y. x ≡ y → ⊥)
 
 abbrev pub Distinct : List ℕ → Type 0
 Distinct [] = Unit {0}
 Distinct (x ∷ xs) = Absent x xs × Distinct xs
 
 abbrev Below : ℕ → List ℕ → Type 0
-Below n = All (λ x. x < n)
+Below n = AllByRecursion (λ x. x < n)
 
 -- n is absent
 below_less : (n : ℕ) (xs : List ℕ) → Absent n xs → Below (suc n) xs → Below n xs

@@ -1,6 +1,6 @@
 -- Each call leaves lawful contents lawful. Assumes nothing.
 use Rattle.std.proofs.Common.{◌≡◌, ℕ, ◌<◌, Bool, true, false, ◌||◌, ltb, List, [], ◌∷◌, length, get_or, set, Some, None, Ok, Option, Result, sym, refl, ap, ◌∙◌, subst, ⊎_elim}
-use Rattle.std.specs.List.{AllByRecursion as All}
+use Rattle.std.specs.List.{AllByRecursion}
 use Rattle.std.proofs.lemmas.List.{length-set, get_or-set_same, get_or-set_other, get_or_past}
 use Rattle.std.proofs.lemmas.Bool.{or_parts, or_from, cases_eq, cases_lt, cond-false}
 use Rattle.model.specs.Limits.{outside, most_conditions, most_effects}
@@ -17,7 +17,7 @@ use Rattle.theory.proofs.Told.{no_refusal}
 use Rattle.theory.proofs.Performing.{performed_keeps}
 
 -- checks of which none holds pass
-pub all_pass : (cs : List Check) → All (λ k. k.holds ≡ false) cs → passes cs ≡ true
+pub all_pass : (cs : List Check) → AllByRecursion (λ k. k.holds ≡ false) cs → passes cs ≡ true
 all_pass [] h = refl
 all_pass (k ∷ cs) h = cond-false k.holds false (passes cs) h.0 ∙ all_pass cs h.1
 

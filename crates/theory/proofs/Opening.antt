@@ -1,6 +1,6 @@
 -- What an opening leaves is lawful. Assumes nothing.
 use Rattle.std.proofs.Common.{◌≡◌, ℕ, ◌^◌, ◌<◌, ◌≤◌, true, false, eqb, leb, [], ◌∷◌, map, None, sym, refl, ap, subst, arith, pow_mono}
-use Rattle.std.specs.List.{AllByRecursion as All}
+use Rattle.std.specs.List.{AllByRecursion}
 use Rattle.std.proofs.lemmas.List.{length-map, length-replicate, get_or-replicate}
 use Rattle.std.proofs.lemmas.Bool.{or_parts, or_from, ne_eqb, lt-leb, eq-eqb, not_from_true}
 use Rattle.model.specs.Limits.{least_settings}
@@ -21,7 +21,7 @@ all_not_ill n h =
     let p : 2 ^ 1 ≤ 2 ^ n = pow_mono one in
     or_from (eqb (all_of n) 0) (leb (2 ^ n) (all_of n)) (ne_eqb (all_of n) 0 (λ e. omega arith)) (lt-leb (2 ^ n) (all_of n) (omega arith))
 
-pub all_wanted : (ns : Shape) → All (λ n. least_settings ≤ n) ns → some_two ill (map all_of ns) ns ≡ false
+pub all_wanted : (ns : Shape) → AllByRecursion (λ n. least_settings ≤ n) ns → some_two ill (map all_of ns) ns ≡ false
 all_wanted [] h = refl
 all_wanted (n ∷ ns) h = or_from (ill (all_of n) n) (some_two ill (map all_of ns) ns) (all_not_ill n h.0) (all_wanted ns h.1)
 

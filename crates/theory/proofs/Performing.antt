@@ -1,6 +1,6 @@
 -- Runs of accepted performs are runs of the table. Assumes nothing.
 use Rattle.std.proofs.Common.{◌≡◌, ℕ, zero, suc, ◌+◌, Bool, true, false, cond, not, ◌||◌, eqb, leb, List, [], ◌∷◌, length, get_or, is_some, Some, None, Ok, Err, Option, Result, sym, refl, ap, ◌∙◌, subst, ⊎_elim, arith}
-use Rattle.std.specs.List.{AllByRecursion as All}
+use Rattle.std.specs.List.{AllByRecursion}
 use Rattle.std.proofs.lemmas.List.{get_or_past}
 use Rattle.std.proofs.lemmas.Bool.{lt-leb, cases_lt}
 use Rattle.model.specs.Limits.{outside, least_byte, most_byte, most_slots}
@@ -136,7 +136,7 @@ lawful_at c s h l =
       moves = h.moves;
     }
 
-slot_lawful : (ns : Shape) (ms : List (Option Move)) (i : ℕ) → All (LawfulSlot ns) ms → LawfulSlot ns (get_or ms i None)
+slot_lawful : (ns : Shape) (ms : List (Option Move)) (i : ℕ) → AllByRecursion (LawfulSlot ns) ms → LawfulSlot ns (get_or ms i None)
 slot_lawful ns [] i h = tt
 slot_lawful ns (m ∷ ms) zero h = h.0
 slot_lawful ns (m ∷ ms) (suc i) h = slot_lawful ns ms i h.1

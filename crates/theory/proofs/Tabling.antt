@@ -1,6 +1,6 @@
 -- The table of actions that moves make. Assumes nothing.
 use Rattle.std.proofs.Common.{◌≡◌, ℕ, zero, suc, ◌+◌, ◌≤◌, Bool, true, false, cond, List, [], ◌∷◌, get_or, set, Some, None, Option, refl, subst, arith}
-use Rattle.std.specs.List.{AllByRecursion as All}
+use Rattle.std.specs.List.{AllByRecursion}
 use Rattle.model.specs.Lists.{total}
 use Rattle.model.specs.Scenes.{Shape, Scene, SceneOf}
 use Rattle.model.specs.Moves.{Pair, Surcharge, Move, all_hold, charged, applied}
@@ -16,7 +16,7 @@ table_numbered [] i = refl
 table_numbered (m ∷ ms) zero = refl
 table_numbered (m ∷ ms) (suc i) = table_numbered ms i
 
-pub applied_scene : (ns : Shape) (ps : List Pair) (s : Scene) → All (Within ns) ps → SceneOf ns s → SceneOf ns (applied ps s)
+pub applied_scene : (ns : Shape) (ps : List Pair) (s : Scene) → AllByRecursion (Within ns) ps → SceneOf ns s → SceneOf ns (applied ps s)
 applied_scene ns [] s h l = l
 applied_scene ns (p ∷ ps) s h l =
     applied_scene ns ps (set s p.device p.setting) h.1 (set_scene ns s p.device p.setting l h.0.0 h.0.1)

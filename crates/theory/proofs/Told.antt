@@ -1,6 +1,6 @@
 -- What the tests of open, want and add tell of contents. Assumes nothing.
 use Rattle.std.proofs.Common.{◌≡◌, ℕ, ◌+◌, ◌≤◌, Bool, true, false, cond, not, ◌&&◌, eqb, ltb, leb, ◌≢◌, List, [], ◌∷◌, map, length, get_or, Some, None, Option, refl, arith}
-use Rattle.std.specs.List.{AllByRecursion as All}
+use Rattle.std.specs.List.{AllByRecursion}
 use Rattle.std.proofs.ByRecursion.{All-weaker, All-from_get_or}
 use Rattle.std.proofs.lemmas.Bool.{false≢true, ltb-false, lt-ltb, leb-false, eqb-true, eqb-false, not-false, or_parts}
 use Rattle.model.specs.Limits.{outside, least_settings, most_settings, most_devices, most_tests, most_conditions, most_effects, most_surcharges, most_tenths}
@@ -14,11 +14,11 @@ use Rattle.model.proofs.Ranks.{tests_scene}
 use Rattle.theory.specs.Wellformed.{LawfulShape, Within, Distinct, LawfulPairs, LawfulSurcharge, LawfulMove, LawfulSlot, ContentsTold}
 
 -- where a list of checks passes, no refusal of it holds
-pub no_refusal : (cs : List Check) → passes cs ≡ true → All (λ c. c.holds ≡ false) cs
+pub no_refusal : (cs : List Check) → passes cs ≡ true → AllByRecursion (λ c. c.holds ≡ false) cs
 no_refusal [] h = tt
 no_refusal (c ∷ cs) h = go c.holds refl h (no_refusal cs)
   where
-    go : (b : Bool) → c.holds ≡ b → cond b false (passes cs) ≡ true → (passes cs ≡ true → All (λ c. c.holds ≡ false) cs) → All (λ c. c.holds ≡ false) (c ∷ cs)
+    go : (b : Bool) → c.holds ≡ b → cond b false (passes cs) ≡ true → (passes cs ≡ true → AllByRecursion (λ c. c.holds ≡ false) cs) → AllByRecursion (λ c. c.holds ≡ false) (c ∷ cs)
     go true e h on = absurd (false≢true h)
     go false e h on = (e, on h)
 
@@ -27,15 +27,15 @@ inside least most n h =
     let both = or_parts (ltb n least) (ltb most n) h in
     (ltb-false n least both.0, ltb-false most n both.1)
 
-pub none_passes : {X : Type 0} (t : X → Bool) (xs : List X) → some t xs ≡ false → All (λ x. t x ≡ false) xs
+pub none_passes : {X : Type 0} (t : X → Bool) (xs : List X) → some t xs ≡ false → AllByRecursion (λ x. t x ≡ false) xs
 none_passes t [] h = tt
 none_passes t (x ∷ xs) h = let both = or_parts (t x) (some t xs) h in (both.0, none_passes t xs both.1)
 
-all_two : {X : Type 0} (P Q R : X → Type 0) → ((x : X) → P x → Q x → R x) → (xs : List X) → All P xs → All Q xs → All R xs
+all_two : {X : Type 0} (P Q R : X → Type 0) → ((x : X) → P x → Q x → R x) → (xs : List X) → AllByRecursion P xs → AllByRecursion Q xs → AllByRecursion R xs
 all_two P Q R f [] p q = tt
 all_two P Q R f (x ∷ xs) p q = (f x p.0 q.0, all_two P Q R f xs p.1 q.1)
 
-all_of_map : {X Y : Type 0} (P : Y → Type 0) (f : X → Y) (xs : List X) → All P (map f xs) → All (λ x. P (f x)) xs
+all_of_map : {X Y : Type 0} (P : Y → Type 0) (f : X → Y) (xs : List X) → AllByRecursion P (map f xs) → AllByRecursion (λ x. P (f x)) xs
 all_of_map P f [] h = tt
 all_of_map P f (x ∷ xs) h = (h.0, all_of_map P f xs h.1)
 
@@ -65,7 +65,7 @@ lawful_pairs ns ps h k r = record {
 }
 
 lawful_lists : (ns : Shape) (lists : List (List Pair)) → some (some (device_high ns)) lists ≡ false → some (some (setting_high ns)) lists ≡ false → some (repeats same_device) lists ≡ false →
-    All (LawfulPairs ns) lists
+    AllByRecursion (LawfulPairs ns) lists
 lawful_lists ns lists h k r =
     all_two (λ ps. (some (device_high ns) ps ≡ false) × (some (setting_high ns) ps ≡ false)) (λ ps. repeats same_device ps ≡ false) (LawfulPairs ns)
     (λ ps both e. lawful_pairs ns ps both.0 both.1 e) lists
@@ -77,7 +77,7 @@ lawful_lists ns lists h k r =
 some_extra : (x : Surcharge) → eqb x.extra 0 ≡ false → 1 ≤ x.extra
 some_extra x h = let ne = eqb-false x.extra 0 h in omega (arith, ne)
 
-lawful_surcharges : (ns : Shape) (xs : List Surcharge) → All (LawfulPairs ns) (tested xs) → some tests_off xs ≡ false → some (λ x. eqb x.extra 0) xs ≡ false → All (LawfulSurcharge ns) xs
+lawful_surcharges : (ns : Shape) (xs : List Surcharge) → AllByRecursion (LawfulPairs ns) (tested xs) → some tests_off xs ≡ false → some (λ x. eqb x.extra 0) xs ≡ false → AllByRecursion (LawfulSurcharge ns) xs
 lawful_surcharges ns xs h k e =
     all_two (λ x. LawfulPairs ns x.tests) (λ x. (tests_off x ≡ false) × (eqb x.extra 0 ≡ false)) (LawfulSurcharge ns)
     (λ x p q. let few = inside 1 most_tests (length x.tests) q.0 in record { pairs = p; some_tests = few.0; few_tests = few.1; some = some_extra x q.1 })

@@ -2,38 +2,26 @@
 ghost use Rattle.theory.specs.Iteration.{RoundsRight, SettledRight, AnySettledRight};
 ghost use Rattle.theory.specs.Stops.{RoundsStop, TimesBounded, ChartsRight};
 
-pub fn rounds_are_right() -> u8
+pub fn rounds_are_right()
     ensures { RoundsRight }
-{
-    0
-}
+{}
 
-pub fn settled_is_right() -> u8
+pub fn settled_is_right()
     ensures { SettledRight }
-{
-    0
-}
+{}
 
-pub fn any_settled_is_right() -> u8
+pub fn any_settled_is_right()
     ensures { AnySettledRight }
-{
-    0
-}
+{}
 
-pub fn rounds_stop() -> u8
+pub fn rounds_stop()
     ensures { RoundsStop }
-{
-    0
-}
+{}
 
-pub fn times_are_bounded() -> u8
+pub fn times_are_bounded()
     ensures { TimesBounded }
-{
-    0
-}
+{}
 
-pub fn charts_are_right() -> u8
+pub fn charts_are_right()
     ensures { ChartsRight }
-{
-    0
-}
+{}

@@ -6,68 +6,46 @@ ghost use Rattle.theory.specs.Performing.{WaysAreRuns, PerformsKeep};
 ghost use Rattle.theory.specs.Ways.{WalksBest, NeverNone};
 ghost use Rattle.theory.specs.Alike.{WaysAlike, BestAlike};
 
-pub fn lawful_contents_are_well_formed() -> u8
+pub fn lawful_contents_are_well_formed()
     ensures { ContentsTold }
-{
-    0
-}
+{}
 
-pub fn lawful_moves_make_lawful_tables() -> u8
+pub fn lawful_moves_make_lawful_tables()
     ensures { MovesLawful }
-{
-    0
-}
+{}
 
-pub fn lawful_contents_have_lawful_tables() -> u8
+pub fn lawful_contents_have_lawful_tables()
     ensures { TablesLawful }
-{
-    0
-}
+{}
 
-pub fn performs_change_the_scene_alone() -> u8
+pub fn performs_change_the_scene_alone()
     ensures { PerformsKeep }
-{
-    0
-}
+{}
 
-pub fn ways_are_runs() -> u8
+pub fn ways_are_runs()
     ensures { WaysAreRuns }
-{
-    0
-}
+{}
 
-pub fn greedy_walks_are_best_ways() -> u8
+pub fn greedy_walks_are_best_ways()
     ensures { WalksBest }
-{
-    0
-}
+{}
 
-pub fn never_means_no_way() -> u8
+pub fn never_means_no_way()
     ensures { NeverNone }
-{
-    0
-}
+{}
 
-pub fn openings_leave_lawful_contents() -> u8
+pub fn openings_leave_lawful_contents()
     ensures { OpeningsLawful }
-{
-    0
-}
+{}
 
-pub fn alike_contents_have_the_same_ways() -> u8
+pub fn alike_contents_have_the_same_ways()
     ensures { WaysAlike }
-{
-    0
-}
+{}
 
-pub fn calls_keep_contents_lawful() -> u8
+pub fn calls_keep_contents_lawful()
     ensures { CallsKeep }
-{
-    0
-}
+{}
 
-pub fn alike_contents_have_one_best_way() -> u8
+pub fn alike_contents_have_one_best_way()
     ensures { BestAlike }
-{
-    0
-}
+{}
