@@ -6,3 +6,5 @@ pub mod Steps
 pub mod Made
 pub mod Spreads
 pub mod Sides
+-- a store that grows: Grown
+pub mod Grown

@@ -2,5 +2,6 @@
 #![tactic(auto)]
 
 pub mod make;
+pub mod node_store;
 pub mod reach;
 pub mod times;

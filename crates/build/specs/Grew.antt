@@ -1,0 +1,27 @@
+-- What is in a store of nodes, and how it grows. Assumes nothing.
+use Rattle.std.specs.Prelude.{◌≡◌, ℕ, List, Option, vec_items}
+use Rattle.nodes.specs.declared.edge.Edge.{Edge}
+use Rattle.nodes.specs.declared.node.Node.{Node}
+use Rattle.model.specs.Charts.{Chart}
+use Rattle.model.specs.Scenes.{Shape}
+use Rattle.shelf.specs.Shapes.{shape_of}
+use Rattle.build.specs.Builds.{Grows, Partway}
+use Rattle.build.specs.declared.node_store.NodeStore.{NodeStore}
+
+-- what the slots hold
+abbrev pub nodes_in : NodeStore → List (Option Node)
+nodes_in s = vec_items s.nodes
+
+-- the shape of the charts
+abbrev pub shape_in : NodeStore → Shape
+shape_in s = shape_of s.shape
+
+-- the store is over the same shape, and has grown by parts of a chart only
+pub record Grew (old new : NodeStore) (l : ℕ) (c : Chart) : Type 0 where
+  pub same : shape_in new ≡ shape_in old
+  pub grows : Grows (nodes_in old) (nodes_in new) (shape_in old) l c
+
+-- the first i kids of a node for a chart stand
+pub record Begun (old mid : NodeStore) (l : ℕ) (c : Chart) (i : ℕ) (kids : List Edge) : Type 0 where
+  pub same : shape_in mid ≡ shape_in old
+  pub way : Partway (nodes_in old) (nodes_in mid) (shape_in old) l c i kids
