@@ -1,5 +1,5 @@
 -- Surcharges and moves, one after another. Assumes nothing.
-use Rattle.std.proofs.Common.{◌≡◌, ℕ, ◌+◌, ◌*◌, ◌<◌, ◌≤◌, Bool, true, false, List, [], ◌∷◌, ◌++◌, length, sym, refl, ap, ◌∙◌, append_assoc, arith, length-append}
+use Rattle.std.proofs.Common.{◌≡◌, ℕ, ◌+◌, ◌*◌, ◌<◌, ◌≤◌, List, [], ◌∷◌, ◌++◌, length, Some, None, Option, MatchOption, sym, refl, ap, ◌∙◌, append_assoc, arith, length-append}
 use Rattle.std.specs.List.{flat_map}
 use Rattle.std.proofs.lemmas.List.{flat_map_more}
 use Rattle.model.specs.Moves.{Surcharge, Move}
@@ -10,7 +10,7 @@ use Rattle.format.proofs.Parts.{lists_then, entry_prefix}
 use Rattle.format.proofs.Sizes.{pairs_long}
 use Rattle.framing.specs.declared.heads.Toll.{Toll}
 use Rattle.framing.specs.declared.heads.Head.{Head}
-use Rattle.framing.specs.Reading.{Any, Lacks, Passes, Skips, toll, head, after}
+use Rattle.framing.specs.Reading.{Any, Lacks, Passes, Skips, toll, head, after, Follows}
 use Rattle.framing.proofs.Pieces.{paired}
 
 -- some items were passed, and no further one stands there: more of them stood there in no way
@@ -124,6 +124,16 @@ pub after_push : (low : ℕ) (es : List Entry) (e : Entry) → after low (es ++ 
 after_push low [] e = refl
 after_push low (x ∷ xs) e = after_push (x.number + 1) xs e
 
+-- the last number says which may come after
+
+pub high_enough : (last : Option ℕ) (a n : ℕ) → MatchOption last (a ≡ 0) (λ k. a ≡ k + 1) → Follows last n → a ≤ n
+high_enough None a n r f = omega arith
+high_enough (Some k) a n r f = omega arith
+
+pub too_low : (last : Option ℕ) (a n : ℕ) → MatchOption last (a ≡ 0) (λ k. a ≡ k + 1) → (Follows last n → ⊥) → n < a
+too_low None a n r f = absurd (f tt)
+too_low (Some k) a n r f = omega arith
+
 -- a move whose number does not rise stands in no rising list
 pub falls : (low : ℕ) (done es : List Entry) (e : Entry) (rest t : List ℕ) → length done < length es → flat_map entry done ++ (entry e ++ rest) ≡ flat_map entry es ++ t → e.number < after low done → Rising low es → ⊥
 falls low [] [] e rest t lt q h r = omega arith
@@ -137,6 +147,6 @@ falls low (d ∷ ds) (x ∷ xs) e rest t lt q h r =
     falls (x.number + 1) ds xs e rest t (omega arith) p.1 (rw (sym p.0) h) r.1
 
 -- the tests of a surcharge were passed over, or there are too few bytes
-pub pass_surcharge : (t : Toll) (b r rest : List ℕ) (k : Bool) → b ≡ toll t ++ r → Skips (2 * t.count) k r rest → Passes Any surcharge k b rest
-pass_surcharge t b r rest true e s = whole_surcharge t b r s.0 rest e s.1 s.2
-pass_surcharge t b r rest false e s = short_tests t b r e s
+pub pass_surcharge : (t : Toll) (b r rest : List ℕ) (n : ℕ) (k : Option (Unit {0})) → n ≡ 2 * t.count → b ≡ toll t ++ r → Skips n k r rest → Passes Any surcharge k b rest
+pass_surcharge t b r rest n (Some _) m e s = whole_surcharge t b r s.0 rest e (s.1 ∙ m) s.2
+pass_surcharge t b r rest n None m e s = short_tests t b r e (omega (arith, s, m))

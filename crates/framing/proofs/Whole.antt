@@ -1,5 +1,5 @@
 -- Whole files. Assumes nothing.
-use Rattle.std.proofs.Common.{◌≡◌, ℕ, ◌+◌, ◌*◌, ◌<◌, Bool, true, false, eqb, List, [], ◌∷◌, ◌++◌, length, take, drop, MatchBool, sym, refl, ap, ◌∙◌, append_assoc, append-nil, arith, length-append, take-append-drop}
+use Rattle.std.proofs.Common.{◌≡◌, ℕ, ◌+◌, ◌*◌, ◌<◌, Bool, true, false, eqb, List, [], ◌∷◌, ◌++◌, length, take, drop, MatchOption, sym, ap, ◌∙◌, append_assoc, append-nil, arith, length-append, take-append-drop}
 use Rattle.std.specs.List.{flat_map}
 use Rattle.std.proofs.lemmas.List.{length-take-le, length-drop, nil_from_length}
 use Rattle.std.proofs.lemmas.Bool.{eqb-true, eqb-false}
@@ -11,6 +11,7 @@ use Rattle.format.proofs.Sizes.{body_long, devices_long}
 use Rattle.framing.specs.declared.heads.Header.{Header}
 use Rattle.framing.specs.Reading.{Any, Lacks, Moves, opening}
 use Rattle.framing.specs.Frames.{Plain, Framed}
+use Rattle.framing.proofs.Tests.{passed}
 use Rattle.framing.proofs.Pieces.{devised}
 
 -- what a header that begins a file of l says
@@ -116,9 +117,6 @@ module _ (h : Header) (b r : List ℕ) (front : b ≡ opening h ++ r) where
             front ∙ ap (λ (u : List ℕ). opening h ++ u) all ∙ ap (λ (u : List ℕ). u ++ body l) head,
           )
 
-      pub ends : Plain h (length b) → MatchBool (eqb (length rest) 0) (Framed b) (Framed b → ⊥)
-      ends plain = go (eqb (length rest) 0) refl
-        where
-          go : (k : Bool) → eqb (length rest) 0 ≡ k → MatchBool k (Framed b) (Framed b → ⊥)
-          go true e = whole plain (eqb-true (length rest) 0 e)
-          go false e = λ f. eqb-false (length rest) 0 e (nothing_left f)
+      pub ends : Plain h (length b) → (k : Bool) → k ≡ eqb (length rest) 0 → MatchOption (passed k) (Framed b → ⊥) (λ _. Framed b)
+      ends plain true e = whole plain (eqb-true (length rest) 0 (sym e))
+      ends plain false e = λ f. eqb-false (length rest) 0 (sym e) (nothing_left f)

@@ -1,5 +1,5 @@
 -- Items taken off the front of bytes. Assumes nothing.
-use Rattle.std.specs.Prelude.{◌≡◌, ℕ, ◌+◌, ◌<◌, Bool, true, false, List, [], ◌∷◌, ◌++◌, length, Some, None, Option, ◌≢◌}
+use Rattle.std.specs.Prelude.{◌≡◌, ℕ, ◌+◌, ◌<◌, List, [], ◌∷◌, ◌++◌, length, Some, None, Option, ◌≢◌}
 use Rattle.format.specs.Bytes.{two}
 use Rattle.format.specs.Files.{Entry, entry, Rising}
 use Rattle.framing.specs.declared.heads.Toll.{Toll}
@@ -19,14 +19,14 @@ Takes f (Some x) before after = before ≡ f x ++ after
 Takes f None before after = Lacks Any f before
 
 -- some x of which P holds was passed over, or none such stands there
-abbrev pub Passes : {X : Type 0} → (X → Type 0) → (X → List ℕ) → Bool → List ℕ → List ℕ → Type 0
-Passes {X} P f true before after = (x : X) × (P x) × (before ≡ f x ++ after)
-Passes P f false before after = Lacks P f before
+abbrev pub Passes : {X : Type 0} → (X → Type 0) → (X → List ℕ) → Option (Unit {0}) → List ℕ → List ℕ → Type 0
+Passes {X} P f (Some _) before after = (x : X) × (P x) × (before ≡ f x ++ after)
+Passes P f None before after = Lacks P f before
 
 -- so many bytes were passed over, or there are fewer
-abbrev pub Skips : ℕ → Bool → List ℕ → List ℕ → Type 0
-Skips n true before after = (xs : List ℕ) × (length xs ≡ n) × (before ≡ xs ++ after)
-Skips n false before after = length before < n
+abbrev pub Skips : ℕ → Option (Unit {0}) → List ℕ → List ℕ → Type 0
+Skips n (Some _) before after = (xs : List ℕ) × (length xs ≡ n) × (before ≡ xs ++ after)
+Skips n None before after = length before < n
 
 -- some move of that number was passed over, or no move stands there
 abbrev pub Numbered : Option ℕ → List ℕ → List ℕ → Type 0
@@ -47,6 +47,11 @@ opening h = h.version ∷ h.devices ∷ h.moves ∷ h.zero ∷ (two h.first ++ (
 -- so many moves, by rising number
 abbrev pub Moves : ℕ → List Entry → Type 0
 Moves count es = (length es ≡ count) × Rising 0 es
+
+-- that number may come behind the last one
+abbrev pub Follows : Option ℕ → ℕ → Type 0
+Follows None n = Unit {0}
+Follows (Some last) n = last < n
 
 -- the least number that may come after the moves
 abbrev pub after : ℕ → List Entry → ℕ

@@ -1,17 +1,17 @@
 //! Items taken off the front of bytes, or passed over.
-ghost use Rattle.std.specs.Prelude.{◌≡◌, [], ◌∷◌, length};
+ghost use Rattle.std.specs.Prelude.{◌≡◌, ◌<◌, [], ◌∷◌, ◌++◌, length, MatchBool, MatchOption};
 ghost use Rattle.std.specs.List.{flat_map};
 ghost use Rattle.format.specs.Bytes.{two};
 ghost use Rattle.format.specs.Files.{surcharge as surcharge_bytes, entry as entry_bytes};
-ghost use Rattle.framing.specs.Reading.{Any, Takes, Passes, Skips, Numbered, Moves, toll as toll_bytes, head as head_bytes, opening};
+ghost use Rattle.framing.specs.Reading.{Any, Takes, Passes, Skips, Numbered, Moves, Follows, toll as toll_bytes, head as head_bytes, opening};
 
 use crate::heads::*;
 
-/// The number of two bytes, the low byte first.
-fn joint(low: u8, high: u8) -> u16
-    ensures { two result ≡ low ∷ high ∷ [] }
+/// Whether a move of that number may stand behind the last one.
+fn follows(last: Option<u8>, number: u8) -> bool
+    ensures { MatchBool result (Follows last number) (Follows last number → ⊥) }
 {
-    high as u16 * 256 + low as u16
+    last.is_none_or(|last| last < number)
 }
 
 /// What is left of a file.
@@ -22,40 +22,41 @@ pub struct Reader<'a> {
 
 impl Reader<'_> {
     /// Passes over so many bytes.
-    pub fn skip(&mut self, count: usize) -> bool
+    pub fn skip(&mut self, count: usize) -> Option<()>
         ensures { Skips count result self.old.rest.now self.new.rest.now }
     {
-        if self.rest.len() < count {
-            return false;
-        }
-        self.rest = &self.rest[count..];
-        true
+        self.rest.split_off(..count).map(|_| ())
+    }
+
+    /// Takes so many bytes.
+    fn take<const N: usize>(&mut self) -> Option<[u8; N]>
+        ensures { MatchOption result (length self.old.rest.now < N) (λ xs. self.old.rest.now ≡ xs ++ self.new.rest.now) }
+    {
+        let (first, rest) = self.rest.split_first_chunk()?;
+        self.rest = rest;
+        Some(*first)
+    }
+
+    /// Takes a number of two bytes, the low byte first.
+    fn number(&mut self) -> Option<u16>
+        ensures { MatchOption result (length self.old.rest.now < 2) (λ n. self.old.rest.now ≡ two n ++ self.new.rest.now) }
+    {
+        self.take().map(u16::from_le_bytes)
     }
 
     fn toll(&mut self) -> Option<Toll>
         ensures { Takes toll_bytes result self.old.rest.now self.new.rest.now }
     {
-        if self.rest.len() < 3 {
-            return None;
-        }
-        let count = self.rest[0];
-        let extra = joint(self.rest[1], self.rest[2]);
-        self.rest = &self.rest[3..];
+        let [count] = self.take::<1>()?;
+        let extra = self.number()?;
         Some(Toll { count, extra })
     }
 
     fn head(&mut self) -> Option<Head>
         ensures { Takes head_bytes result self.old.rest.now self.new.rest.now }
     {
-        if self.rest.len() < 6 {
-            return None;
-        }
-        let number = self.rest[0];
-        let conditions = self.rest[1];
-        let effects = self.rest[2];
-        let surcharges = self.rest[3];
-        let base = joint(self.rest[4], self.rest[5]);
-        self.rest = &self.rest[6..];
+        let [number, conditions, effects, surcharges] = self.take::<4>()?;
+        let base = self.number()?;
         Some(Head {
             number,
             conditions,
@@ -68,18 +69,11 @@ impl Reader<'_> {
     pub fn header(&mut self) -> Option<Header>
         ensures { Takes opening result self.old.rest.now self.new.rest.now }
     {
-        if self.rest.len() < 12 {
-            return None;
-        }
-        let version = self.rest[0];
-        let devices = self.rest[1];
-        let moves = self.rest[2];
-        let zero = self.rest[3];
-        let first = joint(self.rest[4], self.rest[5]);
-        let second = joint(self.rest[6], self.rest[7]);
-        let third = joint(self.rest[8], self.rest[9]);
-        let total = joint(self.rest[10], self.rest[11]);
-        self.rest = &self.rest[12..];
+        let [version, devices, moves, zero] = self.take::<4>()?;
+        let first = self.number()?;
+        let second = self.number()?;
+        let third = self.number()?;
+        let total = self.number()?;
         Some(Header {
             version,
             devices,
@@ -92,59 +86,43 @@ impl Reader<'_> {
         })
     }
 
-    fn surcharge(&mut self) -> bool
+    fn surcharge(&mut self) -> Option<()>
         ensures { Passes Any surcharge_bytes result self.old.rest.now self.new.rest.now }
     {
-        let Some(toll) = self.toll() else {
-            return false;
-        };
-        self.skip(2 * toll.count as usize)
+        let toll = self.toll()?;
+        self.skip(2 * usize::from(toll.count))
     }
 
-    fn surcharges(&mut self, count: u8) -> bool
+    fn surcharges(&mut self, count: u8) -> Option<()>
         ensures { Passes (λ xs. length xs ≡ count) (flat_map surcharge_bytes) result self.old.rest.now self.new.rest.now }
     {
         for _ in 0..count {
-            if !self.surcharge() {
-                return false;
-            }
+            self.surcharge()?;
         }
-        true
+        Some(())
     }
 
     /// Passes over a move, and answers its number.
     fn entry(&mut self) -> Option<u8>
         ensures { Numbered result self.old.rest.now self.new.rest.now }
     {
-        let Some(head) = self.head() else {
-            return None;
-        };
-        if !self.skip(2 * head.conditions as usize) {
-            return None;
-        }
-        if !self.skip(2 * head.effects as usize) {
-            return None;
-        }
-        if !self.surcharges(head.surcharges) {
-            return None;
-        }
+        let head = self.head()?;
+        self.skip(2 * usize::from(head.conditions))?;
+        self.skip(2 * usize::from(head.effects))?;
+        self.surcharges(head.surcharges)?;
         Some(head.number)
     }
 
     /// Passes over so many moves by strictly rising number.
-    pub fn entries(&mut self, count: u8) -> bool
+    pub fn entries(&mut self, count: u8) -> Option<()>
         ensures { Passes (Moves count) (flat_map entry_bytes) result self.old.rest.now self.new.rest.now }
     {
-        let mut next: u16 = 0;
+        let mut last = None;
         for _ in 0..count {
-            let Some(number) = self.entry() else {
-                return false;
-            };
-            if u16::from(number) < next {
-                return false;
-            }
-            next = u16::from(number) + 1;
+            let number = self.entry()?;
+            follows(last, number).then_some(())?;
+            last = Some(number);
         }
-        true
+        Some(())
     }
 }

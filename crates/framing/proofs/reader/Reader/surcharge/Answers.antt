@@ -1,8 +1,9 @@
+use Rattle.std.proofs.Common.{arith}
 use Rattle.framing.proofs.Moves.{no_toll, pass_surcharge}
 use Rattle.framing.proofs.reader.Reader.surcharge.Goals as goal
 
-pub returns-in_default : goal.returns-in_default
-returns-in_default c = no_toll c.args.self.now.rest.now c.in_default.ensures
+pub returns-in_err-toll : goal.returns-in_err-toll
+returns-in_err-toll c = rw c.from_residual.ensures (no_toll c.args.self.now.rest.now c.in_err-toll.ensures)
 
 pub returns : goal.returns
-returns c = pass_surcharge c.in-Some.toll c.args.self.now.rest.now c.toll.new.self.rest.now c.skip.new.self.rest.now c.skip.result c.in-Some.ensures c.skip.ensures
+returns c = pass_surcharge c.in_ok-toll.toll c.args.self.now.rest.now c.toll.new.self.rest.now c.skip.new.self.rest.now _ c.skip.result (omega arith) c.in_ok-toll.ensures c.skip.ensures
