@@ -12,6 +12,12 @@ use build::make::{make, spread};
 use nodes::edge::Edge;
 use nodes::node::Node;
 
+/// An edge that is never throughout, past a device's last setting.
+const NO_EDGE: Edge = Edge {
+    weight: None,
+    child: 0,
+};
+
 /// The edge whose chart has one entry throughout.
 pub fn constant(
     nodes: &mut [Option<Node>],
@@ -31,10 +37,8 @@ pub fn constant(
             child: 0,
         });
     }
-    match constant(nodes, settings, level + 1, entry) {
-        Some(kid) => spread(nodes, settings, level, kid),
-        None => None,
-    }
+    let kid = constant(nodes, settings, level + 1, entry)?;
+    spread(nodes, settings, level, kid)
 }
 
 /// The edge of a level whose chart gives each setting of its device an entry.
@@ -50,18 +54,10 @@ fn fan(
     ensures grows { Grows nodes.old nodes.new settings.now level (dialled (drop level settings.now) 0 entries.now) }
     ensures built { Built nodes.new settings.now level (dialled (drop level settings.now) 0 entries.now) result }
 {
-    let count = settings[level] as usize;
-    let mut kids = [Edge {
-        weight: None,
-        child: 0,
-    }; 8];
-    for i in 0..count {
-        match constant(nodes, settings, level + 1, entries[i]) {
-            Some(kid) => {
-                kids[i] = kid;
-            }
-            None => return None,
-        }
+    let count = usize::from(settings[level]);
+    let mut kids = [NO_EDGE; 8];
+    for (i, entry) in entries[..count].iter().enumerate() {
+        kids[i] = constant(nodes, settings, level + 1, *entry)?;
     }
     make(nodes, settings, level, kids)
 }
@@ -84,8 +80,6 @@ pub fn dial(
     if level == device {
         return fan(nodes, settings, level, entries);
     }
-    match dial(nodes, settings, level + 1, device, entries) {
-        Some(kid) => spread(nodes, settings, level, kid),
-        None => None,
-    }
+    let kid = dial(nodes, settings, level + 1, device, entries)?;
+    spread(nodes, settings, level, kid)
 }

@@ -1,5 +1,5 @@
 -- One step down the path of a scene. Assumes nothing.
-use Rattle.std.proofs.Common.{◌≡◌, ℕ, ◌+◌, ◌<◌, false, List, [], ◌∷◌, length, get_or, take, drop, Some, None, Option, sym, refl, ap, ◌∙◌, subst, arith}
+use Rattle.std.proofs.Common.{◌≡◌, ℕ, ◌+◌, ◌*◌, ◌<◌, false, List, [], ◌∷◌, length, get_or, take, drop, Some, None, Option, sym, refl, ap, ◌∙◌, subst, arith}
 use Rattle.std.specs.List.{flat_map}
 use Rattle.std.proofs.lemmas.List.{drop_more, drop_all}
 use Rattle.nodes.specs.declared.edge.Edge.{Edge}
@@ -27,33 +27,48 @@ walk_never nodes ns s e none =
 pub walk_end : (nodes : List (Option Node)) (shape : Shape) (l : ℕ) (s : Scene) (e : Edge) (w : ℕ) → l ≡ length shape → e.weight ≡ Some w → ◌≡◌ {A = Time} (Some w) (at (drop l shape) (chart nodes (drop l shape) e) s)
 walk_end nodes shape l s e w end h = subst (λ (t : Shape). ◌≡◌ {A = Time} (Some w) (at t (chart nodes t e) s)) (sym (drop_all l shape (omega arith))) (sym h)
 
-module _ (nodes : List (Option Node)) (shape : Shape) (scene : Scene) (l : ℕ) (e : Edge) (w : ℕ) (x : Node) (ready : Ready nodes shape) (legal : SceneOf shape scene) (lt : l < length shape) (fine : Fine nodes (drop l shape) l e) (timely : some late (chart nodes (drop l shape) e) ≡ false) (weight : e.weight ≡ Some w) (here : x ≡ node_at nodes e.child) where
-  pub step_low : get_or scene l 0 < get_or shape l 0
-  step_low = setting_less shape scene l legal lt
+-- what is known at a step down: the edge has the time w, x is the node that it leads to, and k the scene's setting there
+pub record Step (nodes : List (Option Node)) (shape : Shape) (scene : Scene) (l : ℕ) (e : Edge) (w : ℕ) (x : Node) (k : ℕ) : Type 0 where
+  pub ready : Ready nodes shape
+  pub legal : SceneOf shape scene
+  pub depth : l < length shape
+  pub fine : Fine nodes (drop l shape) l e
+  pub timely : some late (chart nodes (drop l shape) e) ≡ false
+  pub weight : e.weight ≡ Some w
+  pub here : x ≡ node_at nodes e.child
+  pub setting : k ≡ get_or scene l 0
 
-  pub step_within : l < length scene
-  step_within = omega (arith, scene_length shape scene legal, lt)
+module _ {nodes : List (Option Node)} {shape : Shape} {scene : Scene} {l : ℕ} {e : Edge} {w : ℕ} {x : Node} {k : ℕ} (s : Step nodes shape scene l e w x k) where
+  step_low : k < get_or shape l 0
+  step_low = subst (λ j. j < get_or shape l 0) (sym s.setting) (setting_less shape scene l s.legal s.depth)
 
-  pub step_raise : late (plus (Some w) (get_or x.edges (get_or scene l 0) none_edge).weight) ≡ false
-  step_raise = side_timely nodes shape ready.store l lt e w x fine weight here (get_or scene l 0) step_low timely
+  step_within : l < length scene
+  step_within = omega (arith, scene_length shape scene s.legal, s.depth)
 
-  module _ (kid : Edge) (is : kid ≡ raised (Some w) (get_or x.edges (get_or scene l 0) none_edge)) where
+  -- one of the eight edges of a node
+  pub step_eight : k < 8
+  step_eight = omega (arith, s.ready.few l, step_low)
+
+  pub step_raise : late (plus (Some w) (get_or x.edges k none_edge).weight) ≡ false
+  step_raise = side_timely nodes shape s.ready.store l s.depth e w x s.fine s.weight s.here k step_low s.timely
+
+  module _ (kid : Edge) (is : kid ≡ raised (Some w) (get_or x.edges k none_edge)) where
     pub step_fine : Fine nodes (drop (l + 1) shape) (l + 1) kid
-    step_fine = subst (Fine nodes (drop (l + 1) shape) (l + 1)) (sym is) (side_fine nodes shape ready.store l lt e w x fine weight here (get_or scene l 0) step_low)
+    step_fine = subst (Fine nodes (drop (l + 1) shape) (l + 1)) (sym is) (side_fine nodes shape s.ready.store l s.depth e w x s.fine s.weight s.here k step_low)
 
     pub step_timely : some late (chart nodes (drop (l + 1) shape) kid) ≡ false
-    step_timely = ap (λ k. some late (chart nodes (drop (l + 1) shape) k)) is ∙ side_kid_timely nodes shape ready.store l lt e w x fine weight here (get_or scene l 0) step_low timely
+    step_timely = ap (λ d. some late (chart nodes (drop (l + 1) shape) d)) is ∙ side_kid_timely nodes shape s.ready.store l s.depth e w x s.fine s.weight s.here k step_low s.timely
 
     pub step_value : at (drop (l + 1) shape) (chart nodes (drop (l + 1) shape) kid) (drop (l + 1) scene) ≡ at (drop l shape) (chart nodes (drop l shape) e) (drop l scene)
     step_value =
         let n = get_or shape l 0 in
         let ns = drop (l + 1) shape in
-        let k = get_or scene l 0 in
         let rest = drop (l + 1) scene in
         let c = chart nodes (drop l shape) e in
-        let p = drop_more shape l 0 lt in
+        let p = drop_more shape l 0 s.depth in
         let q = drop_more scene l 0 step_within in
-        let r : rank ns rest < size ns = rank_less ns rest (scene_drop (l + 1) shape scene legal) in
-        ap (λ d. get_or d (rank ns rest) None) (ap (chart nodes ns) is ∙ sym (side_piece nodes shape ready.store l lt e w x fine weight here k step_low) ∙ ap (λ d. piece shape l d k) (sym (side_chart nodes shape ready.store l lt e w x fine weight here)))
+        let r : rank ns rest < size ns = rank_less ns rest (scene_drop (l + 1) shape scene s.legal) in
+        ap (λ d. get_or d (rank ns rest) None) (ap (chart nodes ns) is ∙ sym (side_piece nodes shape s.ready.store l s.depth e w x s.fine s.weight s.here k step_low) ∙ ap (λ d. piece shape l d k) (sym (side_chart nodes shape s.ready.store l s.depth e w x s.fine s.weight s.here)))
         ∙ sym (at_piece n (size ns) k (rank ns rest) c step_low r)
+        ∙ ap (λ j. get_or c (j * size ns + rank ns rest) None) s.setting
         ∙ sym (λ i. at (p i) c (q i))

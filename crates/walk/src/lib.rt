@@ -27,13 +27,11 @@ pub fn walk(
     requires timely { some late (chart nodes.now (drop level settings.now) e) ≡ false }
     ensures value { result ≡ at (drop level settings.now) (chart nodes.now (drop level settings.now) e) (drop level scene.now) }
 {
-    let Some(w) = e.weight else {
-        return None;
-    };
+    let w = e.weight?;
     if level == settings.len() {
         return Some(w);
     }
     let node = node_at(nodes, e.child);
-    let kid = node.edges[scene[level] as usize];
+    let kid = node.edges[usize::from(scene[level])];
     walk(nodes, settings, scene, level + 1, raise(kid, w))
 }

@@ -1,60 +1,33 @@
-use Rattle.std.proofs.Common.{◌+◌, ◌<◌, length, drop, ap, ◌∙◌, subst, rules}
-use Rattle.model.specs.Charts.{Chart, late}
-use Rattle.model.specs.Lists.{some}
-use Rattle.store.specs.Fillings.{Stuck}
-use Rattle.build.specs.Builds.{Grows, Built}
-use Rattle.build.proofs.Steps.{grows_none, ready_after}
-use Rattle.build.proofs.Spreads.{spread_none, spread_early, spread_grows, spread_built}
+use Rattle.std.proofs.Common.{◌<◌, ◌+◌, ℕ, length, drop, rules}
 use Rattle.dials.specs.Flats.{flat}
-use Rattle.dials.proofs.Turns.{flat_long, flat_timely, flat_leaf, flat_spread}
+use Rattle.dials.proofs.Turns.{Turn, flat_long, flat_timely, flat_spread, turn_early, turn_none, turn_timely, turn_grows, turn_built}
+use Rattle.dials.proofs.+constant.Goals.{After-constant}
 use Rattle.dials.proofs.+constant.Goals as goal
 
-pub returns-then-level-settings : goal.returns-then-level-settings
-returns-then-level-settings t c =
-    let old = c.args.nodes.now in
-    let shape = c.args.settings.now in
-    let l = c.args.level in
+turn : (t : ℕ) (c : After-constant t) → Turn c.args.nodes.now c.constant.new.nodes c.args.settings.now c.args.level (flat (drop (c.args.level + 1) c.args.settings.now) c.args.entry) (flat (drop c.args.level c.args.settings.now) c.args.entry)
+turn t c =
+    let below = drop (c.args.level + 1) c.args.settings.now in
+    let depth : c.args.level < length c.args.settings.now = search rules in
     record {
-      grows = grows_none old shape l (flat (drop l shape) c.args.entry) c.requires.ready;
-      built = flat_leaf old shape l c.args.entry c.if-level-settings.true;
+      ready = c.requires.ready;
+      depth = depth;
+      long = flat_long below c.args.entry;
+      timely = flat_timely below c.args.entry c.requires.timely;
+      is = flat_spread c.args.settings.now c.args.level c.args.entry depth;
+      grows = c.constant.ensures.grows;
     }
 
-pub spread-requires : goal.spread-requires
-spread-requires t c =
-    let old = c.args.nodes.now in
-    let shape = c.args.settings.now in
-    let l = c.args.level in
-    let lt : l < length shape = search rules in
-    let got = c.in-Some.ensures in
-    record {
-      depth = lt;
-      ready = ready_after old c.constant.new.nodes shape (l + 1) (flat (drop (l + 1) shape) c.args.entry) c.requires.ready got.grows;
-      fine = got.built.0;
-      timely = ap (some late) got.built.1 ∙ flat_timely (drop (l + 1) shape) c.args.entry c.requires.timely;
-    }
+pub returns-in_err-kid-clause-grows : goal.returns-in_err-kid-clause-grows
+returns-in_err-kid-clause-grows t c = turn_early (turn t (goal.at.returns-in_err-kid-clause-grows t c).After-constant)
 
-pub returns-in-Some : goal.returns-in-Some
-returns-in-Some t c =
-    let old = c.args.nodes.now in
-    let shape = c.args.settings.now in
-    let l = c.args.level in
-    let lt : l < length shape = search rules in
-    let new = c.spread.new.nodes in
-    let got = c.in-Some.ensures in
-    record {
-      grows = subst (Grows old new shape l) (flat_spread shape l c.args.entry lt) (spread_grows old c.constant.new.nodes new shape l (flat (drop (l + 1) shape) c.args.entry) c.requires.ready lt (flat_long (drop (l + 1) shape) c.args.entry) got.grows c.in-Some.kid got.built.1 c.spread.ensures.grows);
-      built = subst (λ (d : Chart). Built new shape l d c.spread.result) (flat_spread shape l c.args.entry lt) (spread_built old c.constant.new.nodes new shape l (flat (drop (l + 1) shape) c.args.entry) c.requires.ready lt (flat_long (drop (l + 1) shape) c.args.entry) got.grows c.in-Some.kid got.built.1 c.spread.result c.spread.ensures.built);
-    }
+pub returns-in_err-kid-clause-built : goal.returns-in_err-kid-clause-built
+returns-in_err-kid-clause-built t c = turn_none (turn t (goal.at.returns-in_err-kid-clause-built t c).After-constant) c.from_residual.result c.from_residual.ensures c.in_err-kid.ensures.built
 
-pub returns-in-None : goal.returns-in-None
-returns-in-None t c =
-    let old = c.args.nodes.now in
-    let shape = c.args.settings.now in
-    let l = c.args.level in
-    let lt : l < length shape = search rules in
-    let mid = c.constant.new.nodes in
-    let got = c.in-None.ensures in
-    record {
-      grows = subst (Grows old mid shape l) (flat_spread shape l c.args.entry lt) (spread_early old c.constant.new.nodes mid shape l (flat (drop (l + 1) shape) c.args.entry) c.requires.ready lt (flat_long (drop (l + 1) shape) c.args.entry) got.grows);
-      built = subst (Stuck mid shape l) (flat_spread shape l c.args.entry lt) (spread_none old c.constant.new.nodes mid shape l (flat (drop (l + 1) shape) c.args.entry) c.requires.ready lt (flat_long (drop (l + 1) shape) c.args.entry) got.grows got.built);
-    }
+pub spread-requires-clause-timely : goal.spread-requires-clause-timely
+spread-requires-clause-timely t c = turn_timely (turn t (goal.at.spread-requires-clause-timely t c).After-constant) c.in_ok-kid.kid c.in_ok-kid.ensures.built
+
+pub returns-clause-grows : goal.returns-clause-grows
+returns-clause-grows t c = turn_grows (turn t (goal.at.returns-clause-grows t c).After-constant) c.in_ok-kid.kid c.in_ok-kid.ensures.built c.spread.new.nodes c.spread.ensures.grows
+
+pub returns-clause-built : goal.returns-clause-built
+returns-clause-built t c = turn_built (turn t (goal.at.returns-clause-built t c).After-constant) c.in_ok-kid.kid c.in_ok-kid.ensures.built c.spread.new.nodes c.spread.result c.spread.ensures.built

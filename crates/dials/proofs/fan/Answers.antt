@@ -1,57 +1,27 @@
-use Rattle.std.proofs.Common.{◌≡◌, ◌-◌, get_or, drop, ap, ◌∙◌, subst, arith}
-use Rattle.model.specs.Charts.{Chart, late, dialled}
-use Rattle.model.specs.Lists.{some}
-use Rattle.build.specs.Builds.{Built}
-use Rattle.dials.proofs.Turns.{entry_timely, fan_ready, fan_grows, fan_stuck, fan_more, fan_kids, fan_together, fan_made, dial_timely}
+use Rattle.dials.proofs.Turns.{Fan, fan_grows, fan_none, fan_more, fan_kids, fan_timely, fan_made, fan_built}
+use Rattle.dials.proofs.fan.Goals.{At-loop-i}
 use Rattle.dials.proofs.fan.Goals as goal
 
-pub constant-requires : goal.constant-requires
-constant-requires c =
-    let old = c.args.nodes.now in
-    let shape = c.args.settings.now in
-    let l = c.args.level in
-    record { depth = omega (arith, c.requires.depth); ready = fan_ready shape l c.args.entries.now c.requires.depth old c.loop-i.nodes c.requires.ready c.loop-i.i c.loop-i.kids c.loop-i.invariant; timely = entry_timely (get_or shape l 0) c.loop-i.i c.args.entries.now c.loop-i-test.true c.requires.timely }
+kids : (c : At-loop-i) → Fan c.args.nodes.now c.loop-i.nodes c.args.settings.now c.args.level c.args.entries.now c.from-count.result c.loop-i.i c.loop-i.kids
+kids c = record { ready = c.requires.ready; depth = c.requires.depth; way = c.loop-i.invariant; count = c.from-count.ensures; eight = c.told-entries }
 
-pub returns-in-None : goal.returns-in-None
-returns-in-None c =
-    let old = c.args.nodes.now in
-    let shape = c.args.settings.now in
-    let l = c.args.level in
-    let got = c.in-None.ensures in
-    record {
-      grows = fan_grows shape l c.args.entries.now c.requires.depth old c.loop-i.nodes c.requires.ready c.loop-i.i c.loop-i.kids c.loop-i.invariant c.constant.new.nodes c.loop-i-test.true got.grows;
-      built = fan_stuck shape l c.args.entries.now c.requires.depth old c.loop-i.nodes c.requires.ready c.loop-i.i c.loop-i.kids c.loop-i.invariant c.constant.new.nodes c.loop-i-test.true got.grows got.built;
-    }
+pub returns-in_err-kids-clause-grows : goal.returns-in_err-kids-clause-grows
+returns-in_err-kids-clause-grows c = fan_grows (kids (goal.at.returns-in_err-kids-clause-grows c).At-loop-i) c.constant.new.nodes c.loop-i-test.true c.constant.ensures.grows
+
+pub returns-in_err-kids-clause-built : goal.returns-in_err-kids-clause-built
+returns-in_err-kids-clause-built c = fan_none (kids (goal.at.returns-in_err-kids-clause-built c).At-loop-i) c.constant.new.nodes c.loop-i-test.true c.constant.ensures.grows c.from_residual.result c.from_residual.ensures c.in_err-kids.ensures.built
 
 pub loop-i-preserved : goal.loop-i-preserved
-loop-i-preserved c =
-    let old = c.args.nodes.now in
-    let shape = c.args.settings.now in
-    let l = c.args.level in
-    let got = c.in-Some.ensures in
-    fan_more shape l c.args.entries.now c.requires.depth old c.loop-i.nodes c.requires.ready c.loop-i.i c.loop-i.kids c.loop-i.invariant c.constant.new.nodes c.loop-i-test.true got.grows c.in-Some.kid got.built
+loop-i-preserved c = fan_more (kids (goal.at.loop-i-preserved c).At-loop-i) c.constant.new.nodes c.loop-i-test.true c.constant.ensures.grows c.in_ok-kids.field-0 c.in_ok-kids.ensures.built
 
-pub make-requires : goal.make-requires
-make-requires c =
-    let old = c.args.nodes.now in
-    let shape = c.args.settings.now in
-    let l = c.args.level in
-    let all : c.loop-i.i ≡ get_or shape l 0 = omega (arith, c.loop-i-test.false, c.loop-i.auto.i-end) in
-    record {
-      depth = c.requires.depth;
-      ready = fan_ready shape l c.args.entries.now c.requires.depth old c.loop-i.nodes c.requires.ready c.loop-i.i c.loop-i.kids c.loop-i.invariant;
-      kids = fan_kids shape l c.args.entries.now c.requires.depth old c.loop-i.nodes c.requires.ready c.loop-i.i c.loop-i.kids c.loop-i.invariant all;
-      timely = ap (some late) (fan_together shape l c.args.entries.now c.requires.depth old c.loop-i.nodes c.requires.ready c.loop-i.i c.loop-i.kids c.loop-i.invariant all ∙ ap (λ k. dialled (drop l shape) k c.args.entries.now) (let z : 0 ≡ l - l = omega arith in z)) ∙ dial_timely shape l l c.args.entries.now (omega arith) c.requires.depth c.requires.timely;
-    }
+pub make-requires-clause-kids : goal.make-requires-clause-kids
+make-requires-clause-kids c = fan_kids (kids (goal.at.make-requires-clause-kids c).At-loop-i) c.loop-i.auto.i-end c.loop-i-test.false
 
-pub returns : goal.returns
-returns c =
-    let old = c.args.nodes.now in
-    let shape = c.args.settings.now in
-    let l = c.args.level in
-    let all : c.loop-i.i ≡ get_or shape l 0 = omega (arith, c.loop-i-test.false, c.loop-i.auto.i-end) in
-    let new = c.make.new.nodes in
-    record {
-      grows = fan_made shape l c.args.entries.now c.requires.depth old c.loop-i.nodes c.requires.ready c.loop-i.i c.loop-i.kids c.loop-i.invariant all new c.make.ensures.grows;
-      built = subst (λ (d : Chart). Built new shape l d c.make.result) (fan_together shape l c.args.entries.now c.requires.depth old c.loop-i.nodes c.requires.ready c.loop-i.i c.loop-i.kids c.loop-i.invariant all) c.make.ensures.built;
-    }
+pub make-requires-clause-timely : goal.make-requires-clause-timely
+make-requires-clause-timely c = fan_timely (kids (goal.at.make-requires-clause-timely c).At-loop-i) c.loop-i.auto.i-end c.loop-i-test.false c.requires.timely
+
+pub returns-clause-grows : goal.returns-clause-grows
+returns-clause-grows c = fan_made (kids (goal.at.returns-clause-grows c).At-loop-i) c.loop-i.auto.i-end c.loop-i-test.false c.make.new.nodes c.make.ensures.grows
+
+pub returns-clause-built : goal.returns-clause-built
+returns-clause-built c = fan_built (kids (goal.at.returns-clause-built c).At-loop-i) c.loop-i.auto.i-end c.loop-i-test.false c.make.new.nodes c.make.result c.make.ensures.built

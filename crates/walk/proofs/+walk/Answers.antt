@@ -1,37 +1,47 @@
-use Rattle.std.proofs.Common.{◌<◌, length, drop, ◌∙◌, arith, rules}
-use Rattle.walk.proofs.Paths.{walk_never, walk_end, step_low, step_within, step_raise, step_fine, step_timely, step_value}
+use Rattle.std.proofs.Common.{ℕ, drop, ◌∙◌, arith, rules}
+use Rattle.model.proofs.Ranks.{scene_length}
+use Rattle.walk.proofs.Paths.{Step, walk_never, walk_end, step_eight, step_raise, step_fine, step_timely, step_value}
+use Rattle.walk.proofs.+walk.Goals.{After-from}
 use Rattle.walk.proofs.+walk.Goals as goal
 
-pub returns-in_default : goal.returns-in_default
-returns-in_default t c = record { value = walk_never c.args.nodes.now (drop c.args.level c.args.settings.now) (drop c.args.level c.args.scene.now) c.args.e c.in_default.is }
+step : (t : ℕ) (c : After-from t) → Step c.args.nodes.now c.args.settings.now c.args.scene.now c.args.level c.args.e c.in_ok-w.w c.node_at-node.result c.from.result
+step t c = record {
+  ready = c.requires.ready;
+  legal = c.requires.scene;
+  depth = search rules;
+  fine = c.requires.fine;
+  timely = c.requires.timely;
+  weight = c.in_ok-w.was;
+  here = c.node_at-node.ensures;
+  setting = c.from.ensures;
+}
+
+pub returns-in_err-w : goal.returns-in_err-w
+returns-in_err-w t c = record { value = c.from_residual.ensures ∙ walk_never c.args.nodes.now (drop c.args.level c.args.settings.now) (drop c.args.level c.args.scene.now) c.args.e c.in_err-w.was }
 
 pub returns-then-level-settings : goal.returns-then-level-settings
-returns-then-level-settings t c = record { value = walk_end c.args.nodes.now c.args.settings.now c.args.level (drop c.args.level c.args.scene.now) c.args.e c.in-Some.w c.if-level-settings.true c.in-Some.is }
+returns-then-level-settings t c = record { value = walk_end c.args.nodes.now c.args.settings.now c.args.level (drop c.args.level c.args.scene.now) c.args.e c.in_ok-w.w c.if-level-settings.true c.in_ok-w.was }
 
 pub bounds-scene-level : goal.bounds-scene-level
-bounds-scene-level t c =
-    let lt : c.args.level < length c.args.settings.now = search rules in
-    step_within c.args.nodes.now c.args.settings.now c.args.scene.now c.args.level c.args.e c.in-Some.w c.node_at-node.result c.requires.ready c.requires.scene lt c.requires.fine c.requires.timely c.in-Some.is c.node_at-node.ensures
+bounds-scene-level t c = omega (arith, scene_length c.args.settings.now c.args.scene.now c.requires.scene)
+
+pub bounds-node-from : goal.bounds-node-from
+bounds-node-from t c = step_eight (step t c)
 
 pub raise-requires : goal.raise-requires
-raise-requires t c =
-    let lt : c.args.level < length c.args.settings.now = search rules in
-    step_raise c.args.nodes.now c.args.settings.now c.args.scene.now c.args.level c.args.e c.in-Some.w c.node_at-node.result c.requires.ready c.requires.scene lt c.requires.fine c.requires.timely c.in-Some.is c.node_at-node.ensures
+raise-requires t c = step_raise (step t (goal.at.raise-requires t c).After-from)
 
 pub walk-requires : goal.walk-requires
 walk-requires t c =
-    let lt : c.args.level < length c.args.settings.now = search rules in (
+    let s = step t (goal.at.walk-requires t c).After-from in (
       search rules,
       (
-        omega (arith, lt),
+        omega (arith, s.depth),
         (
           c.requires.scene,
           (
             c.requires.ready,
-            (
-              step_fine c.args.nodes.now c.args.settings.now c.args.scene.now c.args.level c.args.e c.in-Some.w c.node_at-node.result c.requires.ready c.requires.scene lt c.requires.fine c.requires.timely c.in-Some.is c.node_at-node.ensures c.raise.result c.raise.ensures,
-              step_timely c.args.nodes.now c.args.settings.now c.args.scene.now c.args.level c.args.e c.in-Some.w c.node_at-node.result c.requires.ready c.requires.scene lt c.requires.fine c.requires.timely c.in-Some.is c.node_at-node.ensures c.raise.result c.raise.ensures,
-            ),
+            (step_fine s c.raise.result c.raise.ensures, step_timely s c.raise.result c.raise.ensures),
           ),
         ),
       ),
@@ -39,10 +49,4 @@ walk-requires t c =
 
 pub returns : goal.returns
 returns t c =
-    let lt : c.args.level < length c.args.settings.now = search rules in
-    record { value = c.walk.ensures.value ∙ step_value c.args.nodes.now c.args.settings.now c.args.scene.now c.args.level c.args.e c.in-Some.w c.node_at-node.result c.requires.ready c.requires.scene lt c.requires.fine c.requires.timely c.in-Some.is c.node_at-node.ensures c.raise.result c.raise.ensures }
-
-pub bounds-node-scene : goal.bounds-node-scene
-bounds-node-scene t c =
-    let lt : c.args.level < length c.args.settings.now = search rules in
-    omega (arith, c.requires.ready.few c.args.level, step_low c.args.nodes.now c.args.settings.now c.args.scene.now c.args.level c.args.e c.in-Some.w c.node_at-node.result c.requires.ready c.requires.scene lt c.requires.fine c.requires.timely c.in-Some.is c.node_at-node.ensures)
+    record { value = c.walk.ensures.value ∙ step_value (step t (goal.at.returns t c).After-from) c.raise.result c.raise.ensures }
