@@ -92,7 +92,7 @@ module _ (op : Op) (nodes : List (Option Node)) (shape : Shape) (l : ℕ) (a b :
   known_stands new store e r st same = raise_stands new shape store l e inner (goal op nodes shape l a b) ws.base st whole_is r same
 
   -- a result of what is left, as it is remembered
-  pub known_right : (new : List (Option Node)) → Kept nodes new → (e : Edge) → Stands new shape l inner e → Right new shape (record { operation = Join op; level = l; left = rest_of a ws.left; right = rest_of b ws.right; result = e })
+  pub known_right : (new : List (Option Node)) → Kept nodes new → (e : Edge) → Stands new shape l inner e → Right new shape (record { operation = Join op; level = l; left = rest_of a ws.left; right = rest_of b ws.right }) e
   known_right new kept e st =
       let ns = drop l shape in
       let p = chart_kept nodes new kept shape s.ready.store ns l (rest_of a ws.left) refl left_fine in

@@ -9,7 +9,7 @@ use build::reach::{node_at, raise};
 use memo::{recall, remember};
 use nodes::edge::Edge;
 use nodes::node::Node;
-use nodes::remembered::{Op, Operation, Remembered};
+use nodes::remembered::{Key, Op, Operation, Remembered};
 
 /// The edge whose chart joins those of two edges entry by entry, or none where no slot is free for one of its parts.
 ///
@@ -58,12 +58,11 @@ pub fn join(
         weight: Some(weights.right),
         child: b.child,
     };
-    let key = Remembered {
+    let key = Key {
         operation: Operation::Join(op),
         level: level as u8,
         left: x,
         right: y,
-        result: x,
     };
     if let Some(known) = recall(memo, &key) {
         return Some(raise(known, weights.base));
@@ -89,10 +88,7 @@ pub fn join(
         Some(made) => {
             remember(
                 memo,
-                Remembered {
-                    result: made,
-                    ..key
-                },
+                Remembered { key, result: made },
             );
             Some(raise(made, weights.base))
         }

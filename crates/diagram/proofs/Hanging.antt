@@ -12,7 +12,8 @@ use Rattle.memo.specs.Results.{Knows}
 use Rattle.pegs.specs.Held.{pegs_of, Held}
 use Rattle.hang.specs.Tasks.{Allowed, made, Told}
 use Rattle.hang.specs.declared.task.Task.{Task}
-use Rattle.diagram.proofs.Once.{held_prop, knows_prop}
+use Rattle.memo.specs.Once.{knows_prop}
+use Rattle.diagram.proofs.Once.{held_prop}
 
 pub held_in : (xs ys : List (Option Node)) (ns ms : Shape) (pegs : List (Option Edge)) → xs ≡ ys → ns ≡ ms → ∥ Held ys ms pegs ∥₁ → Held xs ns pegs
 held_in xs ys ns ms pegs p q h =

@@ -6,11 +6,15 @@ use Rattle.table.specs.Finds.{Interned, Placed}
 use Rattle.nodes.specs.Keys.{SameKey, initial_of}
 use Rattle.nodes.specs.declared.edge.Edge.{Edge}
 use Rattle.nodes.specs.declared.node.Node.{Node}
+use Rattle.nodes.specs.declared.remembered.Key.{Key}
 use Rattle.nodes.specs.declared.remembered.Remembered.{Remembered}
+use Rattle.model.specs.Charts.{Chart}
 use Rattle.model.specs.Scenes.{Shape}
 use Rattle.store.specs.Stores.{chart, Fine, Store}
 use Rattle.store.proofs.Grows.{fine_kept, chart_kept}
 use Rattle.build.specs.Builds.{Stands}
+use Rattle.build.specs.Grew.{nodes_in, shape_in, Grew}
+use Rattle.build.specs.declared.node_store.NodeStore.{NodeStore}
 use Rattle.memo.specs.Operations.{result_chart}
 use Rattle.memo.specs.Results.{Recalled, Added, Right, Knows}
 
@@ -34,26 +38,26 @@ pub added_alone : (old mid new : List (Option Remembered)) (x : Remembered) (r :
 added_alone old mid new x r empty h k y p = elim (added_by mid new x r h k y p) [ inl q ↦ absurd (none_some (slot mid k) y (empty k) q) | inr q ↦ inr q ]
 
 module _ (old new : List (Option Node)) (kept : Kept old new) (shape : Shape) (store : Store old shape) where
-  pub right_kept : (x : Remembered) → Right old shape x → Right new shape x
-  right_kept x r =
-      let l = x.level in
+  pub right_kept : (key : Key) (result : Edge) → Right old shape key result → Right new shape key result
+  right_kept key result r =
+      let l = key.level in
       let ns = drop l shape in
       let same : (e : Edge) → Fine old ns l e → chart new ns e ≡ chart old ns e = λ e f. chart_kept old new kept shape store ns l e refl f in
-      let p = sym (same x.left r.left) in
-      let q = sym (same x.right r.right) in
+      let p = sym (same key.left r.left) in
+      let q = sym (same key.right r.right) in
       record {
-        left = fine_kept old new kept ns l x.left r.left;
-        right = fine_kept old new kept ns l x.right r.right;
-        stands = (fine_kept old new kept ns l x.result r.stands.0, same x.result r.stands.0 ∙ r.stands.1 ∙ (λ i. result_chart x.operation ns l (p i) (q i)));
+        left = fine_kept old new kept ns l key.left r.left;
+        right = fine_kept old new kept ns l key.right r.right;
+        stands = (fine_kept old new kept ns l result r.stands.0, same result r.stands.0 ∙ r.stands.1 ∙ (λ i. result_chart key.operation ns l (p i) (q i)));
       }
 
   pub knows_kept : (memo : List (Option Remembered)) → Knows old shape memo → Knows new shape memo
-  knows_kept memo k = record { table = k.table; all = λ i x h. right_kept x (k.all i x h) }
+  knows_kept memo k = record { table = k.table; all = λ i x h. right_kept x.key x.result (k.all i x h) }
 
-pub knows_added : (nodes : List (Option Node)) (shape : Shape) (before after : List (Option Remembered)) (x : Remembered) → Knows nodes shape before → Table SameKey initial_of after → Added before after x → Right nodes shape x → Knows nodes shape after
+pub knows_added : (nodes : List (Option Node)) (shape : Shape) (before after : List (Option Remembered)) (x : Remembered) → Knows nodes shape before → Table SameKey initial_of after → Added before after x → Right nodes shape x.key x.result → Knows nodes shape after
 knows_added nodes shape before after x k table added r = record {
   table = table;
-  all = λ i y h. elim (added i y h) [ inl p ↦ k.all i y p | inr p ↦ subst (Right nodes shape) (sym p) r ];
+  all = λ i y h. elim (added i y h) [ inl p ↦ k.all i y p | inr p ↦ subst (λ (z : Remembered). Right nodes shape z.key z.result) (sym p) r ];
 }
 
 -- an empty table remembers nothing wrong
@@ -61,13 +65,15 @@ pub knows_none : (nodes : List (Option Node)) (shape : Shape) (memo : List (Opti
 knows_none nodes shape memo table empty = record { table = table; all = λ i x h. absurd (none_some (slot memo i) x (empty i) h) }
 
 -- what is recalled for a key
-pub recalled_stands : (nodes : List (Option Node)) (shape : Shape) (memo : List (Option Remembered)) (key : Remembered) (e : Edge) → Knows nodes shape memo → Recalled memo key e → Stands nodes shape key.level (result_chart key.operation (drop key.level shape) key.level (chart nodes (drop key.level shape) key.left) (chart nodes (drop key.level shape) key.right)) e
-recalled_stands nodes shape memo key e k r =
-    let x = r.entry in
-    let s = (k.all r.place x r.here).stands in
-    let o = r.like.0 in
-    let l = r.like.1 in
-    let a = r.like.2 in
-    let b = r.like.3 in
-    subst (λ (d : Edge). Stands nodes shape key.level (result_chart key.operation (drop key.level shape) key.level (chart nodes (drop key.level shape) key.left) (chart nodes (drop key.level shape) key.right)) d) (sym r.is)
-    (coe 0 1 (i. Stands nodes shape (l i) (result_chart (o i) (drop (l i) shape) (l i) (chart nodes (drop (l i) shape) (a i)) (chart nodes (drop (l i) shape) (b i))) x.result) s)
+pub recalled_right : (nodes : List (Option Node)) (shape : Shape) (memo : List (Option Remembered)) (key : Key) (e : Edge) → Knows nodes shape memo → Recalled memo key e → Right nodes shape key e
+recalled_right nodes shape memo key e k r =
+    let p = r.like in
+    let q = sym r.is in
+    coe 0 1 (i. Right nodes shape (p i) (q i)) (k.all r.place r.entry r.here)
+
+pub recalled_stands : (nodes : List (Option Node)) (shape : Shape) (memo : List (Option Remembered)) (key : Key) (e : Edge) → Knows nodes shape memo → Recalled memo key e → Stands nodes shape key.level (result_chart key.operation (drop key.level shape) key.level (chart nodes (drop key.level shape) key.left) (chart nodes (drop key.level shape) key.right)) e
+recalled_stands nodes shape memo key e k r = (recalled_right nodes shape memo key e k r).stands
+
+-- what is known of a store is known once it has grown
+pub knows_grew : (old new : NodeStore) (l : ℕ) (c : Chart) (memo : List (Option Remembered)) → Knows (nodes_in old) (shape_in old) memo → Grew old new l c → Knows (nodes_in new) (shape_in new) memo
+knows_grew old new l c memo k g = subst (λ s. Knows (nodes_in new) s memo) (sym g.same) (knows_kept (nodes_in old) (nodes_in new) g.grows.kept (shape_in old) old.ready.store memo k)

@@ -4,7 +4,7 @@ use Rattle.nodes.specs.Hashes.{mixed}
 use Rattle.nodes.specs.declared.remembered.Remembered.{Remembered}
 
 abbrev pub SameKey : Remembered → Remembered → Type 0
-SameKey x y = (x.operation ≡ y.operation) × (x.level ≡ y.level) × (x.left ≡ y.left) × (x.right ≡ y.right)
+SameKey x y = x.key ≡ y.key
 
 abbrev pub initial_of : Remembered → ℕ → ℕ
-initial_of x n = mixed x.level (x.left ∷ x.right ∷ []) % n
+initial_of x n = mixed x.key.level (x.key.left ∷ x.key.right ∷ []) % n

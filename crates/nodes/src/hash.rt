@@ -8,10 +8,7 @@ fn code(e: Edge) -> u64
     ensures value { result ≡ the_code e }
     ensures bound { result < 2 ^ 33 }
 {
-    match e.weight {
-        None => e.child as u64,
-        Some(w) => e.child as u64 + 1 + w % 4294967296,
-    }
+    u64::from(e.child) + e.weight.map_or(0, |w| 1 + w % 4294967296)
 }
 
 /// A number that depends on `start` and each of the edges.

@@ -20,13 +20,19 @@ pub enum Operation {
     Put(u8, u8),
 }
 
-/// The result of an operation on two edges of a level, or on one, which then stands twice.
-#[derive(Clone, Copy)]
-pub struct Remembered {
+/// An operation on two edges of a level, or on one, which then stands twice.
+#[derive(Clone, Copy, PartialEq, Eq)]
+pub struct Key {
     pub operation: Operation,
     pub level: u8,
     pub left: Edge,
     pub right: Edge,
+}
+
+/// The result of an operation.
+#[derive(Clone, Copy)]
+pub struct Remembered {
+    pub key: Key,
     pub result: Edge,
 }
 
@@ -45,14 +51,11 @@ impl Entry for Remembered {
     ghost together = { Prim.search rules };
 
     fn same_key(&self, other: &Remembered) -> bool {
-        self.operation == other.operation
-            && self.level == other.level
-            && self.left == other.left
-            && self.right == other.right
+        self.key == other.key
     }
 
     fn start(&self, slots: usize) -> usize {
-        let edges = [self.left, self.right];
-        (mix(self.level as u64, &edges) % slots as u64) as usize
+        let edges = [self.key.left, self.key.right];
+        (mix(u64::from(self.key.level), &edges) % slots as u64) as usize
     }
 }

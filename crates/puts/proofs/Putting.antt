@@ -114,7 +114,7 @@ module _ (nodes : List (Option Node)) (shape : Shape) (l v d : ℕ) (e : Edge) (
   pub known_stands : (new : List (Option Node)) → Store new shape → (k r : Edge) → Stands new shape l inner k → r ≡ raised (Some w) k → Stands new shape l (goal nodes shape l v d e) r
   known_stands new store k r st same = raise_stands new shape store l k inner (goal nodes shape l v d e) w st whole_is r same
 
-  pub known_right : (new : List (Option Node)) → Kept nodes new → (k : Edge) → Stands new shape l inner k → Right new shape (record { operation = Put v d; level = l; left = rest_of e; right = rest_of e; result = k })
+  pub known_right : (new : List (Option Node)) → Kept nodes new → (k : Edge) → Stands new shape l inner k → Right new shape (record { operation = Put v d; level = l; left = rest_of e; right = rest_of e }) k
   known_right new kept k st =
       let ns = drop l shape in
       let p = chart_kept nodes new kept shape s.ready.store ns l (rest_of e) refl rest_fine in

@@ -14,7 +14,7 @@ use build::reach::{node_at, raise};
 use memo::{recall, remember};
 use nodes::edge::Edge;
 use nodes::node::Node;
-use nodes::remembered::{Operation, Remembered};
+use nodes::remembered::{Key, Operation, Remembered};
 
 /// The edge whose chart gives a scene what the chart of `e` gives once the device is at the setting, or none where no
 /// slot is free for one of its parts.
@@ -54,12 +54,11 @@ pub fn put(
         weight: Some(0),
         child: e.child,
     };
-    let key = Remembered {
+    let key = Key {
         operation: Operation::Put(device, setting),
         level: level as u8,
         left: rest,
         right: rest,
-        result: rest,
     };
     if let Some(known) = recall(memo, &key) {
         return Some(raise(known, w));
@@ -89,10 +88,7 @@ pub fn put(
         Some(made) => {
             remember(
                 memo,
-                Remembered {
-                    result: made,
-                    ..key
-                },
+                Remembered { key, result: made },
             );
             Some(raise(made, w))
         }

@@ -1,0 +1,59 @@
+ghost use Rattle.std.specs.Prelude.{◌≡◌, MatchOption, IfSome};
+ghost use Rattle.table.specs.Tables.{Empty};
+ghost use Rattle.build.specs.Grew.{nodes_in, shape_in};
+ghost use Rattle.memo.specs.Results.{Unknown, Recalled, Added, Right};
+
+use crate::diagrams::Diagrams;
+use crate::results::{recall, remember};
+use build::node_store::NodeStore;
+use nodes::edge::Edge;
+use nodes::remembered::{Key, Remembered};
+use std::mem::swap;
+use table::slots::clear;
+
+impl Diagrams {
+    /// The diagrams of a store; nothing is remembered yet.
+    pub fn of(store: NodeStore, memo: Vec<Option<Remembered>>) -> Diagrams
+        ensures store { result.store ≡ store }
+        ensures empty { Empty result.memo.items }
+    {
+        let mut memo = memo;
+        clear(memo.as_mut_slice());
+        Diagrams { store, memo }
+    }
+
+    /// The result that is remembered for the key, if there is one.
+    pub fn recall(&self, key: &Key) -> Option<Edge>
+        ensures recalled { MatchOption result (Unknown self.now.memo.items key.now) (Recalled self.now.memo.items key.now) }
+        ensures right { IfSome result (Right (nodes_in self.now.store) (shape_in self.now.store) key.now) }
+    {
+        recall(self.memo.as_slice(), key)
+    }
+
+    /// Remembers a result. Where no slot is free, all others are forgotten.
+    pub fn remember(&mut self, x: Remembered)
+        requires right { Right (nodes_in self.old.store) (shape_in self.old.store) x.key x.result }
+        ensures store { self.new.store ≡ self.old.store }
+        ensures added { Added self.old.memo.items self.new.memo.items x }
+    {
+        remember(self.memo.as_mut_slice(), x)
+    }
+
+    /// Forgets every result.
+    pub fn forget(&mut self)
+        ensures store { self.new.store ≡ self.old.store }
+        ensures empty { Empty self.new.memo.items }
+    {
+        clear(self.memo.as_mut_slice());
+    }
+
+    /// Changes places with another store, and forgets every result.
+    pub fn exchange(&mut self, other: &mut NodeStore)
+        ensures store { self.new.store ≡ other.old }
+        ensures other { other.new ≡ self.old.store }
+        ensures empty { Empty self.new.memo.items }
+    {
+        self.forget();
+        swap(&mut self.store, other);
+    }
+}
