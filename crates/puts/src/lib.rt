@@ -86,10 +86,7 @@ pub fn put(
     }
     match make(nodes, settings, level, kids) {
         Some(made) => {
-            remember(
-                memo,
-                Remembered { key, result: made },
-            );
+            remember(memo, Remembered { key, result: made });
             Some(raise(made, w))
         }
         None => None,
