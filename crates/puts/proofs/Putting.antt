@@ -1,8 +1,9 @@
 -- The steps of putting a pair, over plain values. Assumes nothing.
-use Rattle.std.proofs.Common.{◌≡◌, ℕ, zero, suc, ◌+◌, ◌-◌, ◌*◌, ◌<◌, ◌≤◌, false, List, [], ◌∷◌, length, get_or, take, drop, set, Some, None, Option, sym, refl, ap, ◌∙◌, subst, arith, length-drop}
+use Rattle.std.proofs.Common.{◌≡◌, ℕ, suc, ◌+◌, ◌-◌, ◌*◌, ◌<◌, ◌≤◌, false, List, [], ◌∷◌, length, get_or, take, drop, set, Some, None, Option, sym, refl, zero-add, ap, ◌∙◌, subst, arith, length-drop}
 use lib.ListN.{length-map}
 use Rattle.std.specs.List.{range_with_len, flat_map}
-use Rattle.std.proofs.lemmas.List.{drop_more, get_or-drop}
+use Rattle.std.proofs.lemmas.List.{drop_more, get_or-take, get_or-drop}
+use Rattle.std.proofs.lemmas.List.FromFn.{get_or-range_with_len}
 use Rattle.table.specs.Tables.{Kept}
 use Rattle.nodes.specs.declared.edge.Edge.{Edge}
 use Rattle.nodes.specs.declared.node.Node.{Node}
@@ -20,10 +21,10 @@ use Rattle.store.specs.Stores.{none_edge, node_at, chart, Fine, Store}
 use Rattle.store.specs.Fillings.{Stuck}
 use Rattle.store.proofs.Canon.{knows}
 use Rattle.store.proofs.Grows.{chart_kept, fine_kept}
-use Rattle.build.specs.Builds.{raised, piece, spread_chart, Ready, Kids, Grows, Partway, together, Stands}
+use Rattle.build.specs.Builds.{raised, piece, spread_chart, Ready, Kids, Grows, Built, Partway, together, Stands}
 use Rattle.build.proofs.Steps.{grows_then, grows_alike, ready_after, stuck_wider, partway_grows, partway_stuck, partway_more, partway_kids, partway_all}
 use Rattle.build.proofs.Spreads.{piece_at, made_long}
-use Rattle.build.proofs.Sides.{piece_timely, earlier_timely, moved_fine, from_zero, raise_timely, raise_stands, side_chart, side_fine, side_piece, side_kid_timely, side_timely}
+use Rattle.build.proofs.Sides.{piece_timely, earlier_timely, moved_fine, from_zero, raise_timely, raise_stands, side_formed, side_chart, side_fine, side_piece, side_kid_timely, side_timely}
 use Rattle.memo.specs.Results.{Right}
 use Rattle.puts.specs.Puts.{goal}
 
@@ -53,6 +54,7 @@ raised_zero e = go e.weight refl
 pub goal_timely : (ns : Shape) (v d : ℕ) (c : Chart) → some late c ≡ false → some late (put_chart ns v d c) ≡ false
 goal_timely ns v d c h = legal_under (put_chart ns v d c) (greatest c) (latest.of_put ns v d c) (sym (late_tells c) ∙ h)
 
+-- what is known of an edge with the time w above the device v, or at it; x is the node that it leads to
 pub record Side (nodes : List (Option Node)) (shape : Shape) (l v d : ℕ) (e : Edge) (w : ℕ) (x : Node) : Type 0 where
   pub ready : Ready nodes shape
   pub above : l ≤ v
@@ -63,34 +65,42 @@ pub record Side (nodes : List (Option Node)) (shape : Shape) (l v d : ℕ) (e : 
   pub weight : e.weight ≡ Some w
   pub here : x ≡ node_at nodes e.child
 
-module _ (nodes : List (Option Node)) (shape : Shape) (l v d : ℕ) (e : Edge) (w : ℕ) (x : Node) (s : Side nodes shape l v d e w x) where
+module _ {nodes : List (Option Node)} {shape : Shape} {l v d : ℕ} {e : Edge} {w : ℕ} {x : Node} (s : Side nodes shape l v d e w x) where
   lt : l < length shape
   lt = omega (arith, s.above, s.depth)
 
-  -- at the device
-  module _ (same : l ≡ v) where
-    dl : d < get_or shape l 0
-    dl = subst (λ k. d < get_or shape k 0) (sym same) s.legal
+  -- at the device, the edge for its setting
+  module _ (same : l ≡ v) (k : ℕ) (setting : k ≡ d) where
+    low : k < get_or shape l 0
+    low = omega (arith, s.legal, setting, ap (λ j. get_or shape j 0) same)
 
-    pub here_raise : late (plus (Some w) (get_or x.edges d none_edge).weight) ≡ false
-    here_raise = side_timely nodes shape s.ready.store l lt e w x s.fine s.weight s.here d dl s.timely
+    pub there_raise : late (plus (Some w) (get_or x.edges k none_edge).weight) ≡ false
+    there_raise = side_timely nodes shape s.ready.store l lt e w x s.fine s.weight s.here k low s.timely
 
-    module _ (kid : Edge) (is : kid ≡ raised (Some w) (get_or x.edges d none_edge)) where
-      pub here_fine : Fine nodes (drop (l + 1) shape) (l + 1) kid
-      here_fine = subst (Fine nodes (drop (l + 1) shape) (l + 1)) (sym is) (side_fine nodes shape s.ready.store l lt e w x s.fine s.weight s.here d dl)
+    module _ (kid : Edge) (is : kid ≡ raised (Some w) (get_or x.edges k none_edge)) where
+      pub there_fine : Fine nodes (drop (l + 1) shape) (l + 1) kid
+      there_fine = subst (Fine nodes (drop (l + 1) shape) (l + 1)) (sym is) (side_fine nodes shape s.ready.store l lt e w x s.fine s.weight s.here k low)
 
-      pub here_timely : some late (chart nodes (drop (l + 1) shape) kid) ≡ false
-      here_timely = ap (λ k. some late (chart nodes (drop (l + 1) shape) k)) is ∙ side_kid_timely nodes shape s.ready.store l lt e w x s.fine s.weight s.here d dl s.timely
+      pub there_timely : some late (chart nodes (drop (l + 1) shape) kid) ≡ false
+      there_timely = ap (λ a. some late (chart nodes (drop (l + 1) shape) a)) is ∙ side_kid_timely nodes shape s.ready.store l lt e w x s.fine s.weight s.here k low s.timely
 
-      pub here_is : spread_chart shape l (chart nodes (drop (l + 1) shape) kid) ≡ goal nodes shape l v d e
-      here_is =
+      there_is : spread_chart shape l (chart nodes (drop (l + 1) shape) kid) ≡ goal nodes shape l v d e
+      there_is =
           let n = get_or shape l 0 in
           let ns = drop (l + 1) shape in
           let at = drop_more shape l 0 lt in
           let c = chart nodes (drop l shape) e in
-          let p : get_or (pieces n (size ns) c) d [] ≡ chart nodes ns kid = ap (λ c. piece shape l c d) (side_chart nodes shape s.ready.store l lt e w x s.fine s.weight s.here) ∙ side_piece nodes shape s.ready.store l lt e w x s.fine s.weight s.here d dl ∙ ap (chart nodes ns) (sym is) in
-          let long : length (get_or (pieces n (size ns) c) d []) ≡ size ns = ap length p ∙ (knows nodes shape s.ready.store ns (l + 1) kid refl here_fine).long in
-          ap (spread_chart shape l) (sym p) ∙ sym (put_here n d ns c dl long) ∙ ap (λ t. put_chart t 0 d c) (sym at) ∙ ap (λ k. put_chart (drop l shape) k d c) (let z : 0 ≡ v - l = omega (arith, same) in z)
+          let p : get_or (pieces n (size ns) c) k [] ≡ chart nodes ns kid = ap (λ c. piece shape l c k) (side_chart nodes shape s.ready.store l lt e w x s.fine s.weight s.here) ∙ side_piece nodes shape s.ready.store l lt e w x s.fine s.weight s.here k low ∙ ap (chart nodes ns) (sym is) in
+          let long : length (get_or (pieces n (size ns) c) k []) ≡ size ns = ap length p ∙ (knows nodes shape s.ready.store ns (l + 1) kid refl there_fine).long in
+          let z : 0 ≡ v - l = omega (arith, same) in
+          ap (spread_chart shape l) (sym p) ∙ sym (put_here n k ns c low long) ∙ ap (λ t. put_chart t 0 k c) (sym at) ∙ (λ i. put_chart (drop l shape) (z i) (setting i) c)
+
+      module _ (new : List (Option Node)) where
+        pub there_grows : Grows nodes new shape l (spread_chart shape l (chart nodes (drop (l + 1) shape) kid)) → Grows nodes new shape l (goal nodes shape l v d e)
+        there_grows g = subst (Grows nodes new shape l) there_is g
+
+        pub there_built : (r : Option Edge) → Built new shape l (spread_chart shape l (chart nodes (drop (l + 1) shape) kid)) r → Built new shape l (goal nodes shape l v d e) r
+        there_built r b = subst (λ (c : Chart). Built new shape l c r) there_is b
 
   -- below the device
   pub rest_fine : Fine nodes (drop l shape) l (rest_of e)
@@ -155,49 +165,62 @@ module _ (nodes : List (Option Node)) (shape : Shape) (l v d : ℕ) (e : Edge) (
     inner_long = ap length inner_is ∙ made_long shape l fanned fanned_long
 
     inner_piece : (k : ℕ) → k < get_or shape l 0 → fanned k ≡ piece shape l inner k
-    inner_piece k kl = sym (ap (λ c. piece shape l c k) inner_is ∙ piece_at shape l k fanned fanned_long kl ∙ ap fanned (counting_at 0 (get_or shape l 0) k kl ∙ let z : 0 + k ≡ k = omega arith in z))
-      where
-        counting_at : (a n k : ℕ) → k < n → get_or (range_with_len a n) k 0 ≡ a + k
-        counting_at a zero k l = absurd (omega arith)
-        counting_at a (suc n) zero l = omega arith
-        counting_at a (suc n) (suc k) l = counting_at (a + 1) n k (omega arith) ∙ omega arith
+    inner_piece k kl = sym (ap (λ c. piece shape l c k) inner_is ∙ piece_at shape l k fanned fanned_long kl ∙ ap fanned (get_or-range_with_len 0 (get_or shape l 0) k 0 kl ∙ zero-add k))
 
     inner_parts : parts (drop l shape) l inner ≡ parts (drop l shape) l (goal nodes shape l v d e)
     inner_parts = sym (parts_later (drop l shape) l w inner) ∙ ap (parts (drop l shape) l) (sym whole_is)
 
-    module _ (mid : List (Option Node)) (i : ℕ) (kids : List Edge) (way : Partway nodes mid shape l inner i kids) where
+    -- the kids one by one, the first i of n
+    module _ {mid : List (Option Node)} {i : ℕ} {kids : List Edge} (way : Partway nodes mid shape l inner i kids) (n : ℕ) (count : n ≡ get_or shape l 0) where
       pub put_ready : Ready mid shape
       put_ready = ready_after nodes mid shape l inner s.ready way.grows
 
-      module _ (il : i < get_or shape l 0) where
-        pub next_fine : Fine mid (drop (l + 1) shape) (l + 1) (get_or x.edges i none_edge)
-        next_fine = fine_kept nodes mid way.grows.kept (drop (l + 1) shape) (l + 1) (get_or x.edges i none_edge) (kid_fine i il)
+      -- the node has an edge for each of them
+      edges_counted : length (take n x.edges) ≡ get_or shape l 0
+      edges_counted = ap (λ m. length (take m x.edges)) count ∙ (side_formed nodes shape s.ready.store l lt e w x s.fine s.weight s.here).wide
 
-        next_chart : chart mid (drop (l + 1) shape) (get_or x.edges i none_edge) ≡ piece shape l (chart nodes (drop l shape) (rest_of e)) i
-        next_chart = chart_kept nodes mid way.grows.kept shape s.ready.store (drop (l + 1) shape) (l + 1) (get_or x.edges i none_edge) refl (kid_fine i il) ∙ kid_chart i il
+      module _ (il : i < length (take n x.edges)) where
+        abbrev kid : Edge
+        kid = get_or (take n x.edges) i none_edge
 
-        pub next_timely : some late (chart mid (drop (l + 1) shape) (get_or x.edges i none_edge)) ≡ false
+        within : i < get_or shape l 0
+        within = omega (arith, il, edges_counted)
+
+        kid_is : kid ≡ get_or x.edges i none_edge
+        kid_is = get_or-take n x.edges i none_edge (omega (arith, within, count))
+
+        fine_there : Fine nodes (drop (l + 1) shape) (l + 1) kid
+        fine_there = subst (Fine nodes (drop (l + 1) shape) (l + 1)) (sym kid_is) (kid_fine i within)
+
+        pub next_fine : Fine mid (drop (l + 1) shape) (l + 1) kid
+        next_fine = fine_kept nodes mid way.grows.kept (drop (l + 1) shape) (l + 1) kid fine_there
+
+        next_chart : chart mid (drop (l + 1) shape) kid ≡ piece shape l (chart nodes (drop l shape) (rest_of e)) i
+        next_chart = chart_kept nodes mid way.grows.kept shape s.ready.store (drop (l + 1) shape) (l + 1) kid refl fine_there ∙ ap (chart nodes (drop (l + 1) shape)) kid_is ∙ kid_chart i within
+
+        pub next_timely : some late (chart mid (drop (l + 1) shape) kid) ≡ false
         next_timely = ap (some late) next_chart ∙ piece_timely shape l (chart nodes (drop l shape) (rest_of e)) i rest_timely
 
-        next_goal : goal mid shape (l + 1) v d (get_or x.edges i none_edge) ≡ piece shape l inner i
-        next_goal = ap (put_chart (drop (l + 1) shape) (v - (l + 1)) d) next_chart ∙ inner_piece i il
+        next_goal : goal mid shape (l + 1) v d kid ≡ piece shape l inner i
+        next_goal = ap (put_chart (drop (l + 1) shape) (v - (l + 1)) d) next_chart ∙ inner_piece i within
 
-        module _ (new : List (Option Node)) (g : Grows mid new shape (l + 1) (goal mid shape (l + 1) v d (get_or x.edges i none_edge))) where
+        module _ (new : List (Option Node)) (g : Grows mid new shape (l + 1) (goal mid shape (l + 1) v d kid)) where
           grew : Grows mid new shape (l + 1) (piece shape l inner i)
           grew = subst (Grows mid new shape (l + 1)) next_goal g
 
           pub put_grows : Grows nodes new shape l (goal nodes shape l v d e)
-          put_grows = grows_alike nodes new shape l inner (goal nodes shape l v d e) inner_parts (partway_grows nodes mid new shape l inner i kids s.ready.store lt il way grew)
+          put_grows = grows_alike nodes new shape l inner (goal nodes shape l v d e) inner_parts (partway_grows nodes mid new shape l inner i kids s.ready.store lt within way grew)
 
-          pub put_stuck : Stuck new shape (l + 1) (goal mid shape (l + 1) v d (get_or x.edges i none_edge)) → Stuck new shape l (goal nodes shape l v d e)
-          put_stuck t = stuck_wider new shape l l (goal nodes shape l v d e) inner (λ p h. subst (In p) inner_parts h) (partway_stuck nodes mid new shape l inner i kids s.ready.store lt il way grew (subst (Stuck new shape (l + 1)) next_goal t))
+          pub put_none : (r : Option Edge) → r ≡ None → Stuck new shape (l + 1) (goal mid shape (l + 1) v d kid) → Built new shape l (goal nodes shape l v d e) r
+          put_none r none t = subst (Built new shape l (goal nodes shape l v d e)) (sym none) (stuck_wider new shape l l (goal nodes shape l v d e) inner (λ p h. subst (In p) inner_parts h) (partway_stuck nodes mid new shape l inner i kids s.ready.store lt within way grew (subst (Stuck new shape (l + 1)) next_goal t)))
 
-          pub put_more : (kid : Edge) → Stands new shape (l + 1) (goal mid shape (l + 1) v d (get_or x.edges i none_edge)) kid → Partway nodes new shape l inner (i + 1) (set kids i kid)
-          put_more kid st = partway_more nodes mid new shape l inner i kids s.ready.store lt il way grew kid (s.ready.few l) st.0 (st.1 ∙ next_goal)
+          pub put_more : (made : Edge) → Stands new shape (l + 1) (goal mid shape (l + 1) v d kid) made → Partway nodes new shape l inner (i + 1) (set kids i made)
+          put_more made st = partway_more nodes mid new shape l inner i kids s.ready.store lt within way grew made (s.ready.few l) st.0 (st.1 ∙ next_goal)
 
-      module _ (all : i ≡ get_or shape l 0) where
+      -- all of them
+      module _ (most : i ≤ length (take n x.edges)) (least : length (take n x.edges) ≤ i) where
         end : Partway nodes mid shape l inner (get_or shape l 0) kids
-        end = subst (λ k. Partway nodes mid shape l inner k kids) all way
+        end = subst (λ k. Partway nodes mid shape l inner k kids) (let all : i ≡ get_or shape l 0 = omega (arith, most, least, edges_counted) in all) way
 
         pub put_kids : Kids mid (get_or shape l 0) (drop (l + 1) shape) l kids
         put_kids = partway_kids nodes mid shape l inner kids (s.ready.few l) end
@@ -208,11 +231,22 @@ module _ (nodes : List (Option Node)) (shape : Shape) (l v d : ℕ) (e : Edge) (
         pub put_timely : some late (together mid shape l kids) ≡ false
         put_timely = ap (some late) put_together ∙ inner_timely
 
-        pub put_made : (new : List (Option Node)) → Grows mid new shape l (together mid shape l kids) → Grows nodes new shape l (goal nodes shape l v d e)
-        put_made new g = grows_alike nodes new shape l inner (goal nodes shape l v d e) inner_parts (grows_then nodes mid new shape l l inner inner s.ready.store (λ p h. h) way.grows (subst (Grows mid new shape l) put_together g))
+        module _ {new : List (Option Node)} (g : Grows mid new shape l (together mid shape l kids)) where
+          pub made_grows : Grows nodes new shape l (goal nodes shape l v d e)
+          made_grows = grows_alike nodes new shape l inner (goal nodes shape l v d e) inner_parts (grows_then nodes mid new shape l l inner inner s.ready.store (λ p h. h) way.grows (subst (Grows mid new shape l) put_together g))
 
-        pub put_full : (new : List (Option Node)) → Stuck new shape l (together mid shape l kids) → Stuck new shape l (goal nodes shape l v d e)
-        put_full new t = stuck_wider new shape l l (goal nodes shape l v d e) inner (λ p h. subst (In p) inner_parts h) (subst (Stuck new shape l) put_together t)
+          pub made_none : (r : Option Edge) → r ≡ None → Stuck new shape l (together mid shape l kids) → Built new shape l (goal nodes shape l v d e) r
+          made_none r none t = subst (Built new shape l (goal nodes shape l v d e)) (sym none) (stuck_wider new shape l l (goal nodes shape l v d e) inner (λ p h. subst (In p) inner_parts h) (subst (Stuck new shape l) put_together t))
 
-        pub put_inner : (new : List (Option Node)) (k : Edge) → Stands new shape l (together mid shape l kids) k → Stands new shape l inner k
-        put_inner new k st = (st.0, st.1 ∙ put_together)
+          module _ (made : Edge) (st : Stands new shape l (together mid shape l kids) made) where
+            stands : Stands new shape l inner made
+            stands = (st.0, st.1 ∙ put_together)
+
+            pub made_timely : late (plus (Some w) made.weight) ≡ false
+            made_timely = known_timely new g.store made stands
+
+            pub made_right : Right new shape (record { operation = Put v d; level = l; left = rest_of e; right = rest_of e }) made
+            made_right = known_right new made_grows.kept made stands
+
+            pub made_stands : (r : Edge) → r ≡ raised (Some w) made → Stands new shape l (goal nodes shape l v d e) r
+            made_stands r same = known_stands new g.store made r stands same

@@ -16,6 +16,12 @@ use nodes::edge::Edge;
 use nodes::node::Node;
 use nodes::remembered::{Key, Operation, Remembered};
 
+/// An edge that is never throughout, past a device's last setting.
+const NO_EDGE: Edge = Edge {
+    weight: None,
+    child: 0,
+};
+
 /// The edge whose chart gives a scene what the chart of `e` gives once the device is at the setting, or none where no
 /// slot is free for one of its parts.
 pub fn put(
@@ -42,13 +48,9 @@ pub fn put(
         return Some(e);
     };
     let node = node_at(nodes, e.child);
-    if level == device as usize {
-        return spread(
-            nodes,
-            settings,
-            level,
-            raise(node.edges[setting as usize], w),
-        );
+    if level == usize::from(device) {
+        let there = raise(node.edges[usize::from(setting)], w);
+        return spread(nodes, settings, level, there);
     }
     let rest = Edge {
         weight: Some(0),
@@ -63,32 +65,12 @@ pub fn put(
     if let Some(known) = recall(memo, &key) {
         return Some(raise(known, w));
     }
-    let count = settings[level] as usize;
-    let mut kids = [Edge {
-        weight: None,
-        child: 0,
-    }; 8];
-    for i in 0..count {
-        match put(
-            nodes,
-            memo,
-            settings,
-            level + 1,
-            device,
-            setting,
-            node.edges[i],
-        ) {
-            Some(kid) => {
-                kids[i] = kid;
-            }
-            None => return None,
-        }
+    let count = usize::from(settings[level]);
+    let mut kids = [NO_EDGE; 8];
+    for (i, edge) in node.edges[..count].iter().enumerate() {
+        kids[i] = put(nodes, memo, settings, level + 1, device, setting, *edge)?;
     }
-    match make(nodes, settings, level, kids) {
-        Some(made) => {
-            remember(memo, Remembered { key, result: made });
-            Some(raise(made, w))
-        }
-        None => None,
-    }
+    let made = make(nodes, settings, level, kids)?;
+    remember(memo, Remembered { key, result: made });
+    Some(raise(made, w))
 }
