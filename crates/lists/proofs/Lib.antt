@@ -1,4 +1,3 @@
-pub mod Takes
 pub mod Repeating
 pub mod Naming
 pub mod Loops

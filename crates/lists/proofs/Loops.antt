@@ -1,7 +1,32 @@
 -- The step of a loop over a list of the code's values, as the definitions see them. Assumes nothing.
-use Rattle.std.proofs.Common.{◌≡◌, ℕ, ◌+◌, ◌<◌, ◌≤◌, Bool, false, cond, ◌||◌, List, [], ◌∷◌, map, length, get_or, drop, sym, refl, ap, ◌∙◌}
+use Rattle.std.proofs.Common.{◌≡◌, ℕ, ◌+◌, ◌<◌, ◌≤◌, Bool, true, false, cond, ◌&&◌, ◌||◌, List, [], ◌∷◌, map, length, get_or, drop, sym, refl, ap, ◌∙◌}
 use Rattle.std.proofs.lemmas.List.{at_drop_more, at_drop_all}
+use Rattle.std.specs.List.{list_any, list_all}
 use Rattle.model.specs.Lists.{total, every, some, repeats}
+
+module _ {X : Type 0} (t : X → Bool) where
+  -- the library's words for the same tests
+  pub any_is_some : (xs : List X) → list_any t xs ≡ some t xs
+  any_is_some [] = refl
+  any_is_some (x ∷ xs) = ap (λ (b : Bool). t x || b) (any_is_some xs)
+
+  both : (a b c : Bool) → b ≡ c → (a && b) ≡ cond a c false
+  both true b c e = e
+  both false b c e = refl
+
+  pub all_is_every : (xs : List X) → list_all t xs ≡ every t xs
+  all_is_every [] = refl
+  all_is_every (x ∷ xs) = both (t x) (list_all t xs) (every t xs) (all_is_every xs)
+
+-- and of what is seen
+module _ {X Y : Type 0} (t : Y → Bool) (f : X → Y) where
+  pub any_is_some_seen : (xs : List X) → list_any (λ x. t (f x)) xs ≡ some t (map f xs)
+  any_is_some_seen [] = refl
+  any_is_some_seen (x ∷ xs) = ap (λ (b : Bool). t (f x) || b) (any_is_some_seen xs)
+
+  pub all_is_every_seen : (xs : List X) → list_all (λ x. t (f x)) xs ≡ every t (map f xs)
+  all_is_every_seen [] = refl
+  all_is_every_seen (x ∷ xs) = both t (t (f x)) (list_all (λ x. t (f x)) xs) (every t (map f xs)) (all_is_every_seen xs)
 
 module _ {X Y : Type 0} where
   -- what is left from i, by the test at i

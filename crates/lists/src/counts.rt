@@ -10,27 +10,22 @@ use crate::limits::*;
 pub fn is_outside(least: u8, most: u8, number: u8) -> bool
     ensures { result ≡ outside least most number }
 {
-    number < least || number > most
+    !(least..=most).contains(&number)
 }
 
 /// Whether some number does.
 pub fn some_outside(least: u8, most: u8, numbers: &[u8]) -> bool
     ensures { result ≡ some (outside least most) numbers.now }
 {
-    for number in numbers {
-        if is_outside(least, most, *number) {
-            return true;
-        }
-    }
-    false
+    numbers
+        .iter()
+        .any(|number| is_outside(least, most, *number))
 }
 
 /// Whether there are too few or too many devices, or one has too few or too many settings.
 pub fn shape_off(settings: &[u8]) -> bool
     ensures { result ≡ is_shape_off settings.now }
 {
-    let devices = settings.len();
-    devices < 1
-        || devices > MOST_DEVICES
+    !(1..=MOST_DEVICES).contains(&settings.len())
         || some_outside(LEAST_SETTINGS as u8, MOST_SETTINGS as u8, settings)
 }

@@ -16,12 +16,8 @@ fn stood<T: Keyed>(items: &[T], i: usize) -> bool
     requires { i < length items.now }
     ensures { MatchBool result ((j : ℕ) × (j < i) × Alike T.Keyed.same items.now j i) (New T.Keyed.same items.now i i) }
 {
-    for j in 0..i {
-        if items[j].has_key_of(&items[i]) {
-            return true;
-        }
-    }
-    false
+    let item = &items[i];
+    items[..i].iter().any(|earlier| earlier.has_key_of(item))
 }
 
 /// The first place whose key stood earlier, if there is one.
@@ -29,6 +25,7 @@ pub fn first_repeat<T: Keyed>(items: &[T]) -> Option<usize>
     ensures first { MatchOption result (Apart T.Keyed.same items.now (length items.now)) (λ i. Repeated T.Keyed.same items.now i) }
     ensures test { is_some result ≡ some_repeat T.Keyed.same items.now }
 {
+    // Not `find` over the places: no proof says what its closure answers there, since `stood` gives no equation.
     for i in 0..items.len() {
         if stood(items, i) {
             return Some(i);

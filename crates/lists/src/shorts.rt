@@ -1,4 +1,4 @@
-ghost use Rattle.std.specs.Prelude.{◌≡◌, ℕ, ◌<◌, ◌≤◌, [], ◌∷◌, ◌++◌, length, if◌then◌else◌, MatchOption, nat_lt, slice_set};
+ghost use Rattle.std.specs.Prelude.{◌≡◌, ℕ, ◌<◌, ◌≤◌, [], ◌∷◌, ◌++◌, length, if◌then◌else◌, is_some, MatchOption, nat_lt, slice_set};
 ghost use Rattle.lists.specs.Shorts.{listed};
 
 use crate::short::Short;
@@ -22,11 +22,9 @@ impl<T: Copy, const N: usize> Short<T, N> {
         if len > N {
             return None;
         }
-        let mut a = [fill; N];
-        for i in 0..len {
-            a[i] = items[i];
-        }
-        Some(Short { items: a, len })
+        let mut all = [fill; N];
+        all[..len].copy_from_slice(items);
+        Some(Short { items: all, len })
     }
 
     /// The items as a slice.
@@ -34,8 +32,7 @@ impl<T: Copy, const N: usize> Short<T, N> {
         ensures value { result.now ≡ listed self.now }
         ensures bound { length result.now ≤ N }
     {
-        let all = &self.items[..];
-        &all[0..self.len]
+        &self.items[..self.len]
     }
 
     /// Replaces the item at a place; nothing changes past the end.
@@ -47,17 +44,16 @@ impl<T: Copy, const N: usize> Short<T, N> {
         }
     }
 
-    /// One more item, or `false` where there are `N` already.
-    pub fn push(&mut self, item: T) -> bool
-        ensures room { result ≡ nat_lt (length (listed self.old)) N }
-        ensures items { listed self.new ≡ (if result then listed self.old ++ item ∷ [] else listed self.old) }
+    /// One more item, or nothing where there are `N` already.
+    pub fn push(&mut self, item: T) -> Option<()>
+        ensures room { is_some result ≡ nat_lt (length (listed self.old)) N }
+        ensures items { listed self.new ≡ (if is_some result then listed self.old ++ item ∷ [] else listed self.old) }
     {
-        let len = self.len;
-        if len >= N {
-            return false;
+        if self.len == N {
+            return None;
         }
-        self.items[len] = item;
-        self.len = len + 1;
-        true
+        self.items[self.len] = item;
+        self.len += 1;
+        Some(())
     }
 }

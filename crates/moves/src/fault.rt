@@ -5,31 +5,31 @@ ghost use Rattle.moves.specs.Faults.{number as the_number};
 #[derive(Clone, Copy, PartialEq, Eq, Debug)]
 pub enum RigFault {
     /// Device or settings count outside its limits, or a list without one item per device.
-    CountsOff,
+    CountsOff = 1,
     /// A name byte that is not printable.
-    NameByteOff,
+    NameByteOff = 2,
     /// Too few or too many move slots.
-    SlotsOff,
+    SlotsOff = 3,
     /// A move number not below the table length.
-    NumberHigh,
+    NumberHigh = 4,
     /// Add on a slot in use.
-    SlotInUse,
+    SlotInUse = 5,
     /// Retime, withdraw or perform on a vacant slot.
-    SlotVacant,
+    SlotVacant = 6,
     /// A device number that is too high.
-    DeviceHigh,
+    DeviceHigh = 7,
     /// A setting too high for its device.
-    SettingHigh,
+    SettingHigh = 8,
     /// A repeated device or name.
-    Repeated,
+    Repeated = 9,
     /// Conditions, effects, surcharges or tests outside their limits.
-    LengthsOff,
+    LengthsOff = 10,
     /// Base 0, extra 0, or base and extras above the limit.
-    TimesOff,
+    TimesOff = 11,
     /// Perform with a condition that does not hold.
-    ConditionUnmet,
+    ConditionUnmet = 12,
     /// A mask that admits nothing, or has a bit for no setting.
-    MaskIll,
+    MaskIll = 13,
 }
 
 impl RigFault {
@@ -37,20 +37,6 @@ impl RigFault {
     pub fn number(&self) -> u8
         ensures { result ≡ the_number self.now }
     {
-        match self {
-            RigFault::CountsOff => 1,
-            RigFault::NameByteOff => 2,
-            RigFault::SlotsOff => 3,
-            RigFault::NumberHigh => 4,
-            RigFault::SlotInUse => 5,
-            RigFault::SlotVacant => 6,
-            RigFault::DeviceHigh => 7,
-            RigFault::SettingHigh => 8,
-            RigFault::Repeated => 9,
-            RigFault::LengthsOff => 10,
-            RigFault::TimesOff => 11,
-            RigFault::ConditionUnmet => 12,
-            RigFault::MaskIll => 13,
-        }
+        *self as u8
     }
 }

@@ -10,14 +10,15 @@ impl Pair {
     pub fn is_device_high(self, settings: &[u8]) -> bool
         ensures { result ≡ device_high settings.now (pair_of self) }
     {
-        self.device as usize >= settings.len()
+        usize::from(self.device) >= settings.len()
     }
 
     /// Whether the device has no such setting.
     pub fn is_setting_high(self, settings: &[u8]) -> bool
         ensures { result ≡ setting_high settings.now (pair_of self) }
     {
-        let device = self.device as usize;
-        device < settings.len() && self.setting >= settings[device]
+        settings
+            .get(usize::from(self.device))
+            .is_some_and(|count| self.setting >= *count)
     }
 }

@@ -14,8 +14,9 @@ impl Pair {
     pub fn holds(self, scene: &[u8]) -> bool
         ensures { result ≡ holds_in scene.now (pair_of self) }
     {
-        let device = self.device as usize;
-        device < scene.len() && scene[device] == self.setting
+        scene
+            .get(usize::from(self.device))
+            .is_some_and(|setting| *setting == self.setting)
     }
 }
 
@@ -23,12 +24,7 @@ impl Pair {
 pub fn every_holds(pairs: &[Pair], scene: &[u8]) -> bool
     ensures { result ≡ all_hold scene.now (pairs_of pairs.now) }
 {
-    for pair in pairs {
-        if !pair.holds(scene) {
-            return false;
-        }
-    }
-    true
+    pairs.iter().all(|pair| pair.holds(scene))
 }
 
 impl Surcharge {
@@ -63,6 +59,6 @@ pub fn apply(effects: &[Pair], scene: &mut Short<u8, MOST_DEVICES>)
     ensures { listed scene.new ≡ applied (pairs_of effects.now) (listed scene.old) }
 {
     for effect in effects {
-        scene.set(effect.device as usize, effect.setting);
+        scene.set(usize::from(effect.device), effect.setting);
     }
 }
