@@ -37,9 +37,7 @@ pub(crate) fn bounded_all(charges: &[Charge]) -> Option<Short<Surcharge, MOST_SU
     let mut all = Short::new(Surcharge::new(Short::new(NO_PAIR), 0));
     for charge in charges {
         let surcharge = charge.bounded()?;
-        if !all.push(surcharge) {
-            return None;
-        }
+        all.push(surcharge)?;
     }
     Some(all)
 }

@@ -1,10 +1,11 @@
 //! What is wrong with the pairs and the times of a move as it is handed in.
-ghost use Rattle.std.specs.Prelude.{◌≡◌, ℕ, ◌+◌, ◌-◌, ◌^◌, min, ◌∷◌, map};
-ghost use Rattle.model.specs.Lists.{total, some};
+ghost use Rattle.std.specs.Prelude.{◌≡◌, ℕ, ◌+◌, ◌-◌, ◌^◌, min, Bool, List, ◌∷◌};
+ghost use Rattle.model.specs.Lists.{total, some, repeats};
+ghost use Rattle.model.specs.Moves as model;
 ghost use Rattle.model.specs.Refusals.{answer};
-ghost use Rattle.model.specs.Calls.{device_high, setting_high, tested, pair_checks, extra, times_off as are_times_off};
+ghost use Rattle.model.specs.Calls.{device_high, setting_high, same_device, tested, pair_checks, extra, times_off as are_times_off};
 ghost use Rattle.moves.specs.Faults.{numbered};
-ghost use Rattle.drafts.specs.Flaws.{flawed, free};
+ghost use Rattle.drafts.specs.Flaws.{free};
 ghost use Rattle.moves.specs.Views.{pair_of, pairs_of};
 ghost use Rattle.drafts.specs.Drafts.{charge_of, charges_of};
 
@@ -14,74 +15,52 @@ use lists::repeats::first_repeat;
 use moves::fault::RigFault;
 use moves::pair::Pair;
 
-/// What can be wrong with a list of pairs.
-#[derive(Clone, Copy)]
-pub(crate) enum Flaw {
-    DeviceHigh,
-    SettingHigh,
-    Repeated,
-}
-
+// All that these two share is `any`.
 fn some_device_high(pairs: &[Pair], settings: &[u8]) -> bool
     ensures { result ≡ some (device_high settings.now) (pairs_of pairs.now) }
 {
-    for pair in pairs {
-        if pair.is_device_high(settings) {
-            return true;
-        }
-    }
-    false
+    pairs.iter().any(|pair| pair.is_device_high(settings))
 }
 
 fn some_setting_high(pairs: &[Pair], settings: &[u8]) -> bool
     ensures { result ≡ some (setting_high settings.now) (pairs_of pairs.now) }
 {
-    for pair in pairs {
-        if pair.is_setting_high(settings) {
-            return true;
-        }
-    }
-    false
+    pairs.iter().any(|pair| pair.is_setting_high(settings))
 }
 
-/// Whether the list has the flaw.
-fn has(flaw: Flaw, pairs: &[Pair], settings: &[u8]) -> bool
-    ensures { result ≡ flawed flaw settings.now (pairs_of pairs.now) }
+/// Whether a device stands twice.
+fn is_repeating(pairs: &[Pair]) -> bool
+    ensures { result ≡ repeats same_device (pairs_of pairs.now) }
 {
-    match flaw {
-        Flaw::DeviceHigh => some_device_high(pairs, settings),
-        Flaw::SettingHigh => some_setting_high(pairs, settings),
-        Flaw::Repeated => first_repeat(pairs).is_some(),
-    }
+    first_repeat(pairs).is_some()
 }
 
-/// Whether the tests of some surcharge have the flaw.
-fn some_has(flaw: Flaw, charges: &[Charge], settings: &[u8]) -> bool
-    ensures { result ≡ some (flawed flaw settings.now) (tested (charges_of charges.now)) }
+/// Whether the tests of some surcharge have a flaw.
+fn some_has<F: Fn(&[Pair]) -> bool>(charges: &[Charge], has: F) -> bool
+    ghost flawed: { List model.Pair → Bool }
+    requires callable { F.IsAlwaysCallable has }
+    requires tests { (pairs : _) (answer : Bool) → F.post has pairs answer → answer ≡ flawed (pairs_of pairs.now) }
+    ensures { result ≡ some flawed (tested (charges_of charges.now)) }
 {
-    for charge in charges {
-        if has(flaw, charge.tests.as_slice(), settings) {
-            return true;
-        }
-    }
-    false
+    charges.iter().any(|charge| has(charge.tests.as_slice()))
 }
 
-/// Whether the conditions, the effects or the tests of some surcharge have the flaw.
-fn any_has(
-    flaw: Flaw,
+/// Whether the conditions, the effects or the tests of some surcharge have it.
+fn any_has<F: Fn(&[Pair]) -> bool>(
     conditions: &[Pair],
     effects: &[Pair],
     charges: &[Charge],
-    settings: &[u8],
+    has: F,
 ) -> bool
-    ensures { result ≡ some (flawed flaw settings.now) (pairs_of conditions.now ∷ pairs_of effects.now ∷ tested (charges_of charges.now)) }
+    ghost flawed: { List model.Pair → Bool }
+    requires callable { F.IsAlwaysCallable has }
+    requires tests { (pairs : _) (answer : Bool) → F.post has pairs answer → answer ≡ flawed (pairs_of pairs.now) }
+    ensures { result ≡ some flawed (pairs_of conditions.now ∷ pairs_of effects.now ∷ tested (charges_of charges.now)) }
 {
-    has(flaw, conditions, settings)
-        || has(flaw, effects, settings)
-        || some_has(flaw, charges, settings)
+    has(conditions) || has(effects) || some_has(charges, has)
 }
 
+// The three lists are no struct of their own: a draft has them as its fields, and times that change have charges alone.
 /// Devices that there are, settings that they have, and no device twice in a list.
 pub(crate) fn judge_pairs(
     conditions: &[Pair],
@@ -91,13 +70,17 @@ pub(crate) fn judge_pairs(
 ) -> Result<(), RigFault>
     ensures { numbered result ≡ answer (pair_checks settings.now (pairs_of conditions.now ∷ pairs_of effects.now ∷ tested (charges_of charges.now))) tt }
 {
-    if any_has(Flaw::DeviceHigh, conditions, effects, charges, settings) {
+    if any_has(conditions, effects, charges, |pairs| {
+        some_device_high(pairs, settings)
+    }) {
         return Err(RigFault::DeviceHigh);
     }
-    if any_has(Flaw::SettingHigh, conditions, effects, charges, settings) {
+    if any_has(conditions, effects, charges, |pairs| {
+        some_setting_high(pairs, settings)
+    }) {
         return Err(RigFault::SettingHigh);
     }
-    if any_has(Flaw::Repeated, conditions, effects, charges, settings) {
+    if any_has(conditions, effects, charges, is_repeating) {
         return Err(RigFault::Repeated);
     }
     Ok(())
@@ -116,12 +99,7 @@ impl Charge {
 fn some_free(charges: &[Charge]) -> bool
     ensures { result ≡ some free (charges_of charges.now) }
 {
-    for charge in charges {
-        if charge.is_free() {
-            return true;
-        }
-    }
-    false
+    charges.iter().any(|charge| charge.is_free())
 }
 
 /// The base and all extras together, as far as 32 bits reach.

@@ -25,9 +25,7 @@ impl Draft {
             self.surcharges.as_slice(),
             settings,
         )?;
-        let Some(entry) = self.bounded() else {
-            return Err(RigFault::LengthsOff);
-        };
+        let entry = self.bounded().ok_or(RigFault::LengthsOff)?;
         if times_off(self.base, self.surcharges.as_slice()) {
             return Err(RigFault::TimesOff);
         }
@@ -44,9 +42,7 @@ pub fn lawful_times(
     ensures { Judged (timing_checks settings.now base (charges_of charges.now)) (λ xs. map surcharge_of (listed xs) ≡ charges_of charges.now) result }
 {
     judge_pairs(&[], &[], charges, settings)?;
-    let Some(surcharges) = bounded_all(charges) else {
-        return Err(RigFault::LengthsOff);
-    };
+    let surcharges = bounded_all(charges).ok_or(RigFault::LengthsOff)?;
     if times_off(base, charges) {
         return Err(RigFault::TimesOff);
     }

@@ -1,19 +1,13 @@
-use Rattle.std.proofs.Common.{true, false, sym, ◌∙◌}
+use Rattle.std.proofs.Common.{◌∙◌, rules, tests}
+use Rattle.std.proofs.lemmas.Iterator.{YieldsList-from_slice}
+use Rattle.std.proofs.lemmas.Iterator.Search.{any_from_yields_List}
+use Rattle.lists.proofs.Loops.{any_is_some_seen}
 use Rattle.model.specs.Calls.{device_high}
 use Rattle.moves.specs.Views.{pair_of}
-use Rattle.lists.proofs.Loops.{some_seen, some_seen_all}
 use Rattle.drafts.proofs.judge.some_device_high.Goals as goal
-
-pub returns-then-is_device_high : goal.returns-then-is_device_high
-returns-then-is_device_high c =
-    sym (some_seen (device_high c.args.settings.now) pair_of c.args.pairs.now c.loop-pair.pair-index _ true c.loop-pair-test.true c.if-is_device_high.ensures)
-    ∙ c.loop-pair.invariant
-
-pub loop-pair-preserved : goal.loop-pair-preserved
-loop-pair-preserved c =
-    sym (some_seen (device_high c.args.settings.now) pair_of c.args.pairs.now c.loop-pair.pair-index _ false c.loop-pair-test.true c.if-is_device_high.ensures)
-    ∙ c.loop-pair.invariant
 
 pub returns : goal.returns
 returns c =
-    sym (some_seen_all (device_high c.args.settings.now) pair_of c.args.pairs.now c.loop-pair.pair-index c.loop-pair-test.false) ∙ c.loop-pair.invariant
+    let high = device_high c.args.settings.now in
+    any_from_yields_List (λ p. high (pair_of p)) _ _ _ c.any.ensures.ran (YieldsList-from_slice c.args.pairs.now cc) (λ x b q k. search (rules, tests))
+    ∙ any_is_some_seen high pair_of c.args.pairs.now
