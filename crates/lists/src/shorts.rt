@@ -3,6 +3,7 @@ ghost use Rattle.lists.specs.Shorts.{listed};
 
 use crate::short::Short;
 
+// Lengths are compared, and not left to `get_mut`: no proof knows what an array holds after a write through that.
 impl<T: Copy, const N: usize> Short<T, N> {
     /// An empty list; `fill` is never read.
     pub fn new(fill: T) -> Self
