@@ -3,13 +3,13 @@ use Rattle.std.proofs.lemmas.List.{at_drop_more, at_drop_all}
 use Rattle.model.specs.Charts.{lesser}
 use Rattle.parts.proofs.Pieces.{lesser_assoc, lesser_none}
 use Rattle.store.specs.Stores.{lowest, none_edge}
-use Rattle.build.proofs.times.least.Goals as goal
+use Rattle.build.proofs.lowering.least.Goals as goal
 
 pub loop-e-preserved : goal.loop-e-preserved
 loop-e-preserved c =
     let xs = c.args.edges.now in
     let i = c.loop-e.e-index in
-    ap (λ v. lesser v (lowest (drop (i + 1) xs))) c.lesser-best.ensures
+    ap (λ v. lesser v (lowest (drop (i + 1) xs))) c.lesser-best.ensures.value
     ∙ lesser_assoc c.loop-e.best (get_or xs i none_edge).weight (lowest (drop (i + 1) xs))
     ∙ sym (at_drop_more (λ ys. lesser c.loop-e.best (lowest ys)) xs i none_edge c.loop-e-test.true)
     ∙ c.loop-e.invariant
