@@ -6,7 +6,6 @@ ghost use Rattle.rig.specs.Rigs.{contents};
 ghost use Rattle.drafts.specs.Drafts.{charges_of, draft_of};
 
 use crate::frame::Rig;
-use crate::slots::*;
 use drafts::draft::{Charge, Draft};
 use drafts::lawful::lawful_times;
 use moves::fault::RigFault;
@@ -17,10 +16,9 @@ impl Rig {
         ensures answer { numbered result ≡ adds (contents self.old) number (draft_of draft.now) }
         ensures left { contents self.new ≡ added (contents self.old) number (draft_of draft.now) }
     {
-        vacant(self.slots.as_slice(), number)?;
-        let settings = self.devices.settings;
-        let entry = draft.lawful(settings.as_slice())?;
-        store(self.slots.as_mut_slice(), number, Some(entry));
+        self.vacant(number)?;
+        let entry = draft.lawful(self.settings())?;
+        self.store(number, Some(entry));
         Ok(())
     }
 
@@ -29,10 +27,9 @@ impl Rig {
         ensures answer { numbered result ≡ retimes (contents self.old) number base (charges_of charges.now) }
         ensures left { contents self.new ≡ retimed (contents self.old) number base (charges_of charges.now) }
     {
-        let _ = occupied(self.slots.as_slice(), number)?;
-        let settings = self.devices.settings;
-        let surcharges = lawful_times(base, charges, settings.as_slice())?;
-        retime(self.slots.as_mut_slice(), number, base, surcharges);
+        self.occupied(number)?;
+        let surcharges = lawful_times(base, charges, self.settings())?;
+        self.retime_slot(number, base, surcharges);
         Ok(())
     }
 }

@@ -1,8 +1,8 @@
 use Rattle.std.proofs.Common.{ℕ, ◌<◌, ◌≤◌, List, ◌++◌, map, length, get_or, take, drop, set, sym, refl, ap, ◌∙◌, subst}
 use Rattle.lists.specs.Shorts.{listed}
-use Rattle.model.specs.Limits.{most_settings}
+use Rattle.model.specs.Limits.{least_settings, most_settings}
 use Rattle.model.specs.Masks.{all_of}
-use Rattle.rig.proofs.OpeningSeen.{few_settings, mask_more, masks_all}
+use Rattle.rig.proofs.OpeningSeen.{some_settings, few_settings, mask_more, masks_all}
 use Rattle.rig.proofs.open.all_masks.Goals as goal
 
 pub mask_of_all-requires : goal.mask_of_all-requires
@@ -11,7 +11,10 @@ mask_of_all-requires c =
     let i = c.loop-device.device in
     let value = c.as_slice-count-items.ensures.value in
     let lt : i < length ns = subst (λ (l : List ℕ). i < length l) value c.loop-device-test.true in
-    subst (λ (l : List ℕ). get_or l i 0 ≤ most_settings) (sym value) (few_settings ns i c.requires lt)
+    record {
+      some = subst (λ (l : List ℕ). least_settings ≤ get_or l i 0) (sym value) (some_settings ns i c.requires lt);
+      few = subst (λ (l : List ℕ). get_or l i 0 ≤ most_settings) (sym value) (few_settings ns i c.requires lt);
+    }
 
 pub loop-device-init : goal.loop-device-init
 loop-device-init c = refl
