@@ -5,7 +5,7 @@ use crate::devices::Devices;
 use moves::entry::Move;
 
 /// A rig: the devices as they stand, and a table of moves. What it holds is always what its calls can leave.
-// What it holds is said by `contents`, which definitions above this crate take too, and not by a model of its own.
+// No model of its own: the promises of the crates above are stated of `contents`.
 #[derive(Drop)]
 pub struct Rig {
     pub(crate) devices: Devices,
