@@ -6,6 +6,7 @@ ghost use Rattle.rig.specs.Rigs.{contents};
 ghost use Rattle.drafts.specs.Drafts.{charges_of, draft_of};
 
 use crate::frame::Rig;
+use crate::slots::*;
 use drafts::draft::{Charge, Draft};
 use drafts::lawful::lawful_times;
 use moves::fault::RigFault;
@@ -16,9 +17,9 @@ impl Rig {
         ensures answer { numbered result ≡ adds (contents self.old) number (draft_of draft.now) }
         ensures left { contents self.new ≡ added (contents self.old) number (draft_of draft.now) }
     {
-        self.vacant(number)?;
+        vacant(self.slots(), number)?;
         let entry = draft.lawful(self.settings())?;
-        self.store(number, Some(entry));
+        store(self.slots.as_mut_slice(), number, Some(entry));
         Ok(())
     }
 
@@ -27,9 +28,9 @@ impl Rig {
         ensures answer { numbered result ≡ retimes (contents self.old) number base (charges_of charges.now) }
         ensures left { contents self.new ≡ retimed (contents self.old) number base (charges_of charges.now) }
     {
-        self.occupied(number)?;
+        occupied(self.slots(), number)?;
         let surcharges = lawful_times(base, charges, self.settings())?;
-        self.retime_slot(number, base, surcharges);
+        retime(self.slots.as_mut_slice(), number, base, surcharges);
         Ok(())
     }
 }

@@ -5,6 +5,7 @@ ghost use Rattle.moves.specs.Faults.{numbered};
 ghost use Rattle.rig.specs.Rigs.{contents};
 
 use crate::frame::Rig;
+use crate::slots::*;
 use moves::fault::RigFault;
 use moves::scene::*;
 
@@ -15,7 +16,7 @@ impl Rig {
         ensures left { contents self.new ≡ performed (contents self.old) number }
         ensures moved { Moved (contents self.old) number (numbered result) (contents self.new) }
     {
-        let entry = *self.occupied(number)?;
+        let entry = *occupied(self.slots(), number)?;
         if !every_holds(entry.conditions(), self.scene()) {
             return Err(RigFault::ConditionUnmet);
         }
@@ -29,8 +30,8 @@ impl Rig {
         ensures answer { numbered result ≡ withdraws (contents self.old) number }
         ensures left { contents self.new ≡ withdrawn (contents self.old) number }
     {
-        self.occupied(number)?;
-        self.store(number, None);
+        occupied(self.slots(), number)?;
+        store(self.slots.as_mut_slice(), number, None);
         Ok(())
     }
 
