@@ -1,5 +1,5 @@
 //! The table of move slots, lent as a slice: one slot is read or rewritten by its number.
-ghost use Rattle.std.specs.Prelude.{◌≡◌, ◌<◌, map, length, Some, None, slice_index_or, slice_set};
+ghost use Rattle.std.specs.Prelude.{◌≡◌, ◌<◌, map, length, Some, None, Option, slice_index_or, slice_set};
 ghost use Rattle.lists.specs.Shorts.{listed};
 ghost use Rattle.model.specs.Refusals.{answer};
 ghost use Rattle.moves.specs.Faults.{Judged, numbered};
@@ -13,7 +13,7 @@ use moves::fault::RigFault;
 
 /// The move in a slot.
 pub(crate) fn occupied(slots: &[Option<Move>], number: usize) -> Result<&Move, RigFault>
-    ensures { Judged (use_checks (map slot_of slots.now) number) (λ m. slice_index_or (map slot_of slots.now) number None ≡ Some (move_of m.now)) result }
+    ensures { Judged (use_checks (map slot_of slots.now) number) (λ m. (slice_index_or slots.now number None ≡ Some m.now) × (slice_index_or (map slot_of slots.now) number None ≡ Some (move_of m.now))) result }
 {
     let slot = slots.get(number).ok_or(RigFault::NumberHigh)?;
     slot.as_ref().ok_or(RigFault::SlotVacant)
@@ -32,7 +32,8 @@ pub(crate) fn vacant(slots: &[Option<Move>], number: usize) -> Result<(), RigFau
 /// Rewrites one slot.
 pub(crate) fn store(slots: &mut [Option<Move>], number: usize, entry: Option<Move>)
     requires { number < length slots.old }
-    ensures { map slot_of slots.new ≡ slice_set (map slot_of slots.old) number (slot_of entry) }
+    ensures list { slots.new ≡ slice_set slots.old number entry }
+    ensures seen { map slot_of slots.new ≡ slice_set (map slot_of slots.old) number (slot_of entry) }
 {
     slots[number] = entry;
 }
@@ -45,7 +46,8 @@ pub(crate) fn retime(
     surcharges: Short<Surcharge, MOST_SURCHARGES>,
 )
     requires { number < length slots.old }
-    ensures { map slot_of slots.new ≡ slice_set (map slot_of slots.old) number (retimed_in base (map surcharge_of (listed surcharges)) (slice_index_or (map slot_of slots.old) number None)) }
+    ensures list { (entry : Option Move) × (slots.new ≡ slice_set slots.old number entry) }
+    ensures seen { map slot_of slots.new ≡ slice_set (map slot_of slots.old) number (retimed_in base (map surcharge_of (listed surcharges)) (slice_index_or (map slot_of slots.old) number None)) }
 {
     if let Some(entry) = &mut slots[number] {
         entry.retime(base, surcharges);

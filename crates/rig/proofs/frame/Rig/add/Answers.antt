@@ -29,7 +29,7 @@ invariant_of-self c =
     let fits = c.in_ok-entry.ensures in
     let judged = then_judged s (λ xs. vacancy_checks xs n) (λ ns. move_checks ns d) _ c.settings.result.now (Ok tt) c.slots.ensures c.settings.ensures.value (sym c.in_ok-vacant.ensures) fits.0 in
     let len : length c.store.new.slots ≡ vec_len r.slots = search rules in
-    let left = written r.devices r.slots c.as_mut_slice.result.now c.store.new.slots n (Some (move_of c.in_ok-entry.entry)) c.as_mut_slice.ensures.value len c.store.ensures ∙ left_written s (adds s n d) n (Some d) _ (ap Some fits.1) judged in
+    let left = written r.devices r.slots c.as_mut_slice.result.now c.store.new.slots n (Some (move_of c.in_ok-entry.entry)) c.as_mut_slice.ensures.value len c.store.ensures.seen ∙ left_written s (adds s n d) n (Some d) _ (ap Some fits.1) judged in
     record { lawful = subst Lawful (sym left) ((calls_keep s r.lawful).add n d) }
 
 pub returns : goal.returns
@@ -43,5 +43,5 @@ returns c =
     let len : length c.store.new.slots ≡ vec_len r.slots = search rules in
     record {
       answer = sym judged;
-      left = written r.devices r.slots c.as_mut_slice.result.now c.store.new.slots n (Some (move_of c.in_ok-entry.entry)) c.as_mut_slice.ensures.value len c.store.ensures ∙ left_written s (adds s n d) n (Some d) _ (ap Some fits.1) judged;
+      left = written r.devices r.slots c.as_mut_slice.result.now c.store.new.slots n (Some (move_of c.in_ok-entry.entry)) c.as_mut_slice.ensures.value len c.store.ensures.seen ∙ left_written s (adds s n d) n (Some d) _ (ap Some fits.1) judged;
     }

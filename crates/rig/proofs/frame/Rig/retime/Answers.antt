@@ -38,7 +38,7 @@ invariant_of-self c =
     let lent = c.as_mut_slice.result.now in
     let same = ap (λ (l : List (Option Move)). retimed_in base (map surcharge_of (listed c.in_ok-surcharges.surcharges)) (get_or (map slot_of l) n None)) c.as_mut_slice.ensures.value
     ∙ ap (λ (xs : List model.Surcharge). retimed_in base xs (slot s n)) fits.1 in
-    let left = written r.devices r.slots lent c.retime.new.slots n (retimed_in base (map surcharge_of (listed c.in_ok-surcharges.surcharges)) (get_or (map slot_of lent) n None)) c.as_mut_slice.ensures.value len c.retime.ensures
+    let left = written r.devices r.slots lent c.retime.new.slots n (retimed_in base (map surcharge_of (listed c.in_ok-surcharges.surcharges)) (get_or (map slot_of lent) n None)) c.as_mut_slice.ensures.value len c.retime.ensures.seen
     ∙ left_written s (retimes s n base ys) n (retimed_in base ys (slot s n)) _ same judged in
     record { lawful = subst Lawful (sym left) ((calls_keep s r.lawful).retime n base ys) }
 
@@ -55,6 +55,6 @@ returns c =
     let lent = c.as_mut_slice.result.now in
     let same = ap (λ (l : List (Option Move)). retimed_in base (map surcharge_of (listed c.in_ok-surcharges.surcharges)) (get_or (map slot_of l) n None)) c.as_mut_slice.ensures.value
     ∙ ap (λ (xs : List model.Surcharge). retimed_in base xs (slot s n)) fits.1 in
-    let left = written r.devices r.slots lent c.retime.new.slots n (retimed_in base (map surcharge_of (listed c.in_ok-surcharges.surcharges)) (get_or (map slot_of lent) n None)) c.as_mut_slice.ensures.value len c.retime.ensures
+    let left = written r.devices r.slots lent c.retime.new.slots n (retimed_in base (map surcharge_of (listed c.in_ok-surcharges.surcharges)) (get_or (map slot_of lent) n None)) c.as_mut_slice.ensures.value len c.retime.ensures.seen
     ∙ left_written s (retimes s n base ys) n (retimed_in base ys (slot s n)) _ same judged in
     record { answer = sym judged; left = left }

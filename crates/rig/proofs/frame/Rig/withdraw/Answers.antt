@@ -15,7 +15,7 @@ invariant_of-self c =
     let n = c.args.number in
     let passed : withdraws (contents s) n ≡ Ok tt = subst (λ (l : List (Option model.Move)). answer (use_checks l n) (tt {0}) ≡ Ok (tt {0})) c.slots.ensures c.in_ok-occupied.ensures.0 in
     let len : length c.store.new.slots ≡ vec_len s.slots = search rules in
-    let left = written s.devices s.slots c.as_mut_slice.result.now c.store.new.slots n None c.as_mut_slice.ensures.value len c.store.ensures ∙ left_written (contents s) (withdraws (contents s) n) n None None refl passed in
+    let left = written s.devices s.slots c.as_mut_slice.result.now c.store.new.slots n None c.as_mut_slice.ensures.value len c.store.ensures.seen ∙ left_written (contents s) (withdraws (contents s) n) n None None refl passed in
     record { lawful = subst Lawful (sym left) ((calls_keep (contents s) s.lawful).withdraw n) }
 
 pub returns : goal.returns
@@ -26,5 +26,5 @@ returns c =
     let len : length c.store.new.slots ≡ vec_len s.slots = search rules in
     record {
       answer = sym passed;
-      left = written s.devices s.slots c.as_mut_slice.result.now c.store.new.slots n None c.as_mut_slice.ensures.value len c.store.ensures ∙ left_written (contents s) (withdraws (contents s) n) n None None refl passed;
+      left = written s.devices s.slots c.as_mut_slice.result.now c.store.new.slots n None c.as_mut_slice.ensures.value len c.store.ensures.seen ∙ left_written (contents s) (withdraws (contents s) n) n None None refl passed;
     }
