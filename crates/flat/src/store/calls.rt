@@ -4,7 +4,7 @@ ghost use Rattle.shelf.specs.Shapes.{shape_of};
 ghost use Rattle.flat.specs.Hanging.{flat_sound};
 
 use crate::store::FlatShelf;
-use cells::entries::Join;
+use cells::joins::{Lesser, Sum};
 use cells::rows::{same_rows, some_late};
 use lists::limits::{MOST_SETTINGS, PEGS};
 use shelf::calls::Shelf;
@@ -48,7 +48,7 @@ impl Shelf for FlatShelf {
         if !self.hung[l] || !self.hung[r] {
             return Err(ShelfFault::PegBare);
         }
-        self.hang_joined(t, l, r, Join::Lesser);
+        self.hang_joined::<Lesser>(t, l, r);
         Ok(())
     }
 
@@ -65,7 +65,7 @@ impl Shelf for FlatShelf {
         if self.sum_is_late(l, r) {
             return Err(ShelfFault::TimeHigh);
         }
-        self.hang_joined(t, l, r, Join::Sum);
+        self.hang_joined::<Sum>(t, l, r);
         Ok(())
     }
 
