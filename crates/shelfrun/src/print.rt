@@ -16,6 +16,7 @@ impl<T: fmt::Display> fmt::Display for Answer<T> {
 }
 
 /// An entry of a chart: a time, or never.
+#[derive(Drop)]
 struct Entry(Option<u64>);
 
 impl fmt::Display for Entry {
