@@ -1,13 +1,13 @@
 -- The calls of a flat shelf: when they are refused, and what they leave. Assumes nothing.
 use Rattle.std.proofs.Common.{◌≡◌, ℕ, ◌<◌, ◌≤◌, Bool, true, false, ◌&&◌, ◌||◌, ltb, leb, ◌⊎◌, List, [], ◌∷◌, length, get_or, take, None, Ok, Err, sym, refl, ap, ◌∙◌, ap₂, inl, inr, arith}
 use Rattle.std.specs.List.{AllByRecursion as All}
-use Rattle.std.proofs.lemmas.Bool.{or_left, or_right, or_from, and_right, and_from, lt-leb, le-leb, lt-ltb}
+use Rattle.std.proofs.lemmas.Bool.{or_left, or_right, or_from, and_right, lt-leb, le-leb}
 use Rattle.model.specs.Lists.{some}
 use Rattle.model.specs.Scenes.{Shape, Scene, size, rank}
 use Rattle.model.specs.Charts.{Time, Chart, at, lesser, plus, zipped, dialled, put_chart, greatest, late, same_chart}
 use Rattle.model.specs.Refusals.{refuse, answer}
 use Rattle.model.specs.Shelves.{Meaning, Sound, dial, cheaper, sum, put, on, bare, high, no_room, call_checks, does, done, compares, reads, scene_checks}
-use Rattle.model.proofs.Refusing.{refuses, accepts, accepted, accepted_is, accepted_first, refused_first}
+use Rattle.model.proofs.Refusing.{refuses, accepts, accepted, accepted_is, accepted_first}
 use Rattle.model.proofs.Ranks.{rank_less, tests_scene}
 use Rattle.model.proofs.Soundness.{call_accepted, hung_legal}
 use Rattle.shelf.specs.Faults.{number}
@@ -136,26 +136,12 @@ module _ (ns : Shape) (cells : List Time) (hung : List Bool) where
 
   -- A put
   module _ (t a v d : ℕ) where
-    pub put_device_high : length ns ≤ v → does m (put t a v d) ≡ Err 7
-    put_device_high h =
-        refuses [] 7 (leb (length ns) v) (refuse 8 (ltb v (length ns) && leb (get_or ns v 0) d) ∷ refuse 14 (high t || high a) ∷ refuse 15 (bare m.pegs a) ∷ no_room m (put t a v d) ∷ []) tt tt (le-leb (length ns) v h)
-
     module _ (device : v < length ns) where
-      pub put_setting_high : get_or ns v 0 ≤ d → does m (put t a v d) ≡ Err 8
-      put_setting_high h =
-          refuses (refuse 7 (leb (length ns) v) ∷ []) 8 (ltb v (length ns) && leb (get_or ns v 0) d) (refuse 14 (high t || high a) ∷ refuse 15 (bare m.pegs a) ∷ no_room m (put t a v d) ∷ []) tt
-          (lt-leb (length ns) v device, tt) (and_from (ltb v (length ns)) (leb (get_or ns v 0) d) (lt-ltb v (length ns) device) (le-leb (get_or ns v 0) d h))
-
       module _ (setting : d < get_or ns v 0) where
         setting_low : (ltb v (length ns) && leb (get_or ns v 0) d) ≡ false
         setting_low = and_right (ltb v (length ns)) (leb (get_or ns v 0) d) (lt-leb (get_or ns v 0) d setting)
 
         module _ (ht : t < 8) (ha : a < 8) where
-          pub put_bare : get_or hung a false ≡ false → does m (put t a v d) ≡ Err 15
-          put_bare e =
-              refuses (refuse 7 (leb (length ns) v) ∷ refuse 8 (ltb v (length ns) && leb (get_or ns v 0) d) ∷ refuse 14 (high t || high a) ∷ []) 15 (bare m.pegs a) (no_room m (put t a v d) ∷ []) tt
-              (lt-leb (length ns) v device, (setting_low, (low_pegs t a ht ha, tt))) (bare_at ns cells hung a ha false e)
-
           module _ (ea : get_or hung a false ≡ true) where
             put_rows : put_chart ns v d (on m.pegs a) ≡ put_chart ns v d (row cells (size ns) a)
             put_rows = ap (put_chart ns v d) (row_on ns cells hung a ha ea)
@@ -174,9 +160,6 @@ module _ (ns : Shape) (cells : List Time) (hung : List Bool) where
 
   -- A read
   module _ (p : ℕ) (s : Scene) where
-    pub reads_scene_off : (n : ℕ) → Err n ≡ answer (scene_checks ns s) (rank ns s) → Err n ≡ reads m p s
-    reads_scene_off n e = sym (refused_first (scene_checks ns s) (refuse 14 (high p) ∷ refuse 15 (bare m.pegs p) ∷ []) (rank ns s) (at ns (on m.pegs p) s) n (sym e))
-
     module _ (k : ℕ) (scene : Ok k ≡ answer (scene_checks ns s) (rank ns s)) where
       pub reads_peg : reads m p s ≡ answer (refuse 14 (high p) ∷ refuse 15 (bare m.pegs p) ∷ []) (at ns (on m.pegs p) s)
       reads_peg = accepted_first (scene_checks ns s) (refuse 14 (high p) ∷ refuse 15 (bare m.pegs p) ∷ []) (rank ns s) k (at ns (on m.pegs p) s) (sym scene)

@@ -10,6 +10,10 @@ pub fn handed_back(
     let Err(Unopened { fault, cells }) = opened else {
         return Ok(Vec::new(rt.alloc()));
     };
-    println!(rt; "not opened: {}, {} cells handed back", fault.number(), cells.len())?;
+    println!(rt;
+        "not opened: {}, {} cells handed back",
+        fault.number(),
+        cells.len()
+    )?;
     Ok(cells)
 }

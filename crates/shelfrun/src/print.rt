@@ -40,7 +40,11 @@ pub fn compared(rt: &HostRuntime, pegs: &str, answer: Result<bool, ShelfFault>) 
 }
 
 /// What a read of a scene answered.
-pub fn read(rt: &HostRuntime, scene: &str, answer: Result<Option<u64>, ShelfFault>) -> io::Result<()> {
+pub fn read(
+    rt: &HostRuntime,
+    scene: &str,
+    answer: Result<Option<u64>, ShelfFault>,
+) -> io::Result<()> {
     println!(rt; "{scene}: {}", Answer(answer.map(Entry)))
 }
 
