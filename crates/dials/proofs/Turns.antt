@@ -17,35 +17,8 @@ use Rattle.build.specs.declared.node_store.NodeStore.{NodeStore}
 use Rattle.build.specs.Builds.{Kids, Built, Stands, together, piece, spread_chart}
 use Rattle.build.specs.Grew.{nodes_in, shape_in, Grew, Begun}
 use Rattle.build.proofs.Spreads.{piece_at, made_long}
-use Rattle.build.proofs.Grown.{early_spread, stuck_spread, grew_spread, built_spread, grew_next, stuck_next, begun_next, begun_kids, begun_timely, grew_made, built_made}
+use Rattle.build.proofs.Grown.{grew_next, stuck_next, begun_next, begun_kids, begun_timely, grew_made, built_made}
 use Rattle.dials.specs.Flats.{flat}
-
--- A level above
-
--- what is known of a level once the chart c below it is built, where the chart d is c at each setting of the level's device
-pub record Turn (old mid : NodeStore) (l : ℕ) (c d : Chart) : Type 0 where
-  pub depth : l < length (shape_in old)
-  pub long : length c ≡ size (drop (l + 1) (shape_in old))
-  pub timely : some late c ≡ false
-  pub is : spread_chart (shape_in old) l c ≡ d
-  pub grew : Grew old mid (l + 1) c
-
-module _ {old mid : NodeStore} {l : ℕ} {c d : Chart} (s : Turn old mid l c d) where
-  pub turn_early : Grew old mid l d
-  turn_early = early_spread old mid l c d s.depth s.long s.is s.grew
-
-  pub turn_none : (r : Option Edge) → r ≡ None → Stuck (nodes_in mid) (shape_in old) (l + 1) c → Built (nodes_in mid) (shape_in old) l d r
-  turn_none r none t = subst (Built (nodes_in mid) (shape_in old) l d) (sym none) (stuck_spread old mid l c d s.depth s.long s.is s.grew t)
-
-  module _ (kid : Edge) (st : Stands (nodes_in mid) (shape_in old) (l + 1) c kid) where
-    pub turn_timely : some late (chart (nodes_in mid) (drop (l + 1) (shape_in mid)) kid) ≡ false
-    turn_timely = ap (λ t. some late (chart (nodes_in mid) (drop (l + 1) t) kid)) s.grew.same ∙ ap (some late) st.1 ∙ s.timely
-
-    pub turn_grew : (new : NodeStore) → Grew mid new l (spread_chart (shape_in mid) l (chart (nodes_in mid) (drop (l + 1) (shape_in mid)) kid)) → Grew old new l d
-    turn_grew new g = grew_spread old mid l c d s.depth s.long s.is s.grew new kid st.1 g
-
-    pub turn_built : (new : NodeStore) (r : Option Edge) → Built (nodes_in new) (shape_in mid) l (spread_chart (shape_in mid) l (chart (nodes_in mid) (drop (l + 1) (shape_in mid)) kid)) r → Built (nodes_in new) (shape_in old) l d r
-    turn_built new r b = built_spread old mid l c d s.depth s.long s.is s.grew new kid st.1 r b
 
 -- Charts with one entry
 

@@ -4,10 +4,10 @@
 ghost use Rattle.std.specs.Prelude.{◌≡◌, ◌-◌, ◌<◌, ◌≤◌, false, map, length, take, drop, slice_index};
 ghost use Rattle.model.specs.Charts.{dialled, late};
 ghost use Rattle.model.specs.Lists.{some};
-ghost use Rattle.model.specs.Scenes.{scenes};
+ghost use Rattle.store.specs.Stores.{chart, Fine};
 ghost use Rattle.build.specs.Builds.{Built};
 ghost use Rattle.build.specs.Grew.{nodes_in, shape_in, Grew};
-ghost use Rattle.dials.specs.Flats.{flat};
+ghost use Rattle.dials.specs.Flats.{flat, lifted};
 
 use build::node_store::NodeStore;
 use nodes::edge::Edge;
@@ -18,6 +18,23 @@ const NO_EDGE: Edge = Edge {
     child: 0,
 };
 
+/// The edge of a level whose chart gives a scene what the chart of `e`, an edge of the level `from`, gives it, or none
+/// where no slot is free for a part of it.
+fn lift(store: &mut NodeStore, level: usize, from: usize, e: Edge) -> Option<Edge>
+    requires above { level ≤ from }
+    requires depth { from ≤ length (shape_in store.old) }
+    requires fine { Fine (nodes_in store.old) (drop from (shape_in store.old)) from e }
+    requires timely { some late (chart (nodes_in store.old) (drop from (shape_in store.old)) e) ≡ false }
+    ensures grew { Grew store.old store.new level (lifted (shape_in store.old) level (from - level) (chart (nodes_in store.old) (drop from (shape_in store.old)) e)) }
+    ensures built { Built (nodes_in store.new) (shape_in store.old) level (lifted (shape_in store.old) level (from - level) (chart (nodes_in store.old) (drop from (shape_in store.old)) e)) result }
+{
+    if level == from {
+        return Some(e);
+    }
+    let kid = lift(store, level + 1, from, e)?;
+    store.spread(level, kid)
+}
+
 /// The edge whose chart has one entry throughout.
 pub fn constant(store: &mut NodeStore, level: usize, entry: Option<u64>) -> Option<Edge>
     requires depth { level ≤ length (shape_in store.old) }
@@ -25,14 +42,12 @@ pub fn constant(store: &mut NodeStore, level: usize, entry: Option<u64>) -> Opti
     ensures grew { Grew store.old store.new level (flat (drop level (shape_in store.old)) entry) }
     ensures built { Built (nodes_in store.new) (shape_in store.old) level (flat (drop level (shape_in store.old)) entry) result }
 {
-    if level == store.devices() {
-        return Some(Edge {
-            weight: entry,
-            child: 0,
-        });
-    }
-    let kid = constant(store, level + 1, entry)?;
-    store.spread(level, kid)
+    let leaf = Edge {
+        weight: entry,
+        child: 0,
+    };
+    let devices = store.devices();
+    lift(store, level, devices, leaf)
 }
 
 /// The edge of a level whose chart gives each setting of its device an entry.
@@ -63,9 +78,6 @@ pub fn dial(
     ensures grew { Grew store.old store.new level (dialled (drop level (shape_in store.old)) (device - level) entries.now) }
     ensures built { Built (nodes_in store.new) (shape_in store.old) level (dialled (drop level (shape_in store.old)) (device - level) entries.now) result }
 {
-    if level == device {
-        return fan(store, level, entries);
-    }
-    let kid = dial(store, level + 1, device, entries)?;
-    store.spread(level, kid)
+    let fanned = fan(store, device, entries)?;
+    lift(store, level, device, fanned)
 }
