@@ -2,7 +2,7 @@
 use Rattle.std.proofs.Common.{◌≡◌, ℕ, zero, suc, ◌+◌, ◌-◌, ◌<◌, ◌≤◌, min, true, false, ◌⊎◌, List, [], ◌∷◌, ◌++◌, map, length, take, drop, replicate, is_some, Some, None, Option, sym, refl, ap, ◌∙◌, subst, inl, inr, arith, take-append-drop}
 use lib.ListN.{length-map}
 use lib.LanesLaws.{map-replicate}
-use Rattle.std.specs.List.{AllByRecursion as All, flat_map}
+use Rattle.std.specs.List.{AllByRecursion, flat_map}
 use Rattle.std.proofs.lemmas.Bool.{both_ways, cases_eq, ltb-false, le-ltb}
 use Rattle.std.proofs.lemmas.List.{take-map, drop-map, length-take-le}
 use Rattle.table.specs.Tables.{slot, Apart, Kept}
@@ -60,7 +60,7 @@ pub late_less : (v : ℕ) (x : Time) → late (plus (Some v) x) ≡ false → la
 late_less v None h = refl
 late_less v (Some x) h = le-ltb greatest_time x (omega (arith, ltb-false greatest_time (v + x) h))
 
-fine_lowered : (nodes : List (Option Node)) (ns : Shape) (l : ℕ) (m : Time) (es : List Edge) → All (Fine nodes ns l) es → All (Fine nodes ns l) (map (lower_by m) es)
+fine_lowered : (nodes : List (Option Node)) (ns : Shape) (l : ℕ) (m : Time) (es : List Edge) → AllByRecursion (Fine nodes ns l) es → AllByRecursion (Fine nodes ns l) (map (lower_by m) es)
 fine_lowered nodes ns l m [] a = tt
 fine_lowered nodes ns l m (e ∷ es) a = (one ns a.0, fine_lowered nodes ns l m es a.1)
   where
@@ -90,12 +90,12 @@ module _ (nodes : List (Option Node)) (n : ℕ) (ns : Shape) (l : ℕ) (kids : L
     rest = rest_is;
     low = ap zeroed wanted_low ∙ zeroed_twice (lowest kids) ∙ sym wanted_low;
     high = ap (highest nodes ns) (sym (take-append-drop n (wanted nodes ns l kids).edges)) ∙ highest_append nodes ns (take n (wanted nodes ns l kids).edges) (drop n (wanted nodes ns l kids).edges) (ap (highest nodes ns) rest_is ∙ highest_none nodes ns (8 - n));
-    kids = subst (All (Fine nodes ns (l + 1))) (sym front_is) (fine_lowered nodes ns (l + 1) (lowest kids) (take n kids) k.fine);
+    kids = subst (AllByRecursion (Fine nodes ns (l + 1))) (sym front_is) (fine_lowered nodes ns (l + 1) (lowest kids) (take n kids) k.fine);
   }
 
   -- the chart of the kids is that of the node, later by the lowest
   pub wanted_chart : later (lowest kids) (flat_map (chart nodes ns) (take n (wanted nodes ns l kids).edges)) ≡ flat_map (chart nodes ns) (take n kids)
-  wanted_chart = ap (λ es. later (lowest kids) (flat_map (chart nodes ns) es)) front_is ∙ body_back nodes ns (lowest kids) (take n kids) (subst (λ m. All (λ e. Back m e.weight) (take n kids)) (sym lowest_front) (back_all (take n kids)))
+  wanted_chart = ap (λ es. later (lowest kids) (flat_map (chart nodes ns) es)) front_is ∙ body_back nodes ns (lowest kids) (take n kids) (subst (λ m. AllByRecursion (λ e. Back m e.weight) (take n kids)) (sym lowest_front) (back_all (take n kids)))
 
 module _ (nodes : List (Option Node)) (shape : Shape) (store : Store nodes shape) (n : ℕ) (ns : Shape) (l : ℕ) (at : drop l shape ≡ n ∷ ns) (kids : List Edge) (few : n ≤ 8) (k : Kids nodes n ns l kids) where
   -- the part of the node is one of the chart

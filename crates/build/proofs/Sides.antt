@@ -1,7 +1,7 @@
 -- An edge with a time, its node and its kids, and edges that are raised. Assumes nothing.
 use Rattle.std.proofs.Common.{◌≡◌, ℕ, zero, suc, ◌+◌, ◌*◌, ◌<◌, ◌≤◌, Bool, true, false, ◌||◌, ◌⊎◌, List, [], ◌∷◌, length, get_or, take, drop, Some, None, Option, sym, refl, ap, ◌∙◌, subst, inl, inr, arith}
 use lib.ListN.{length-map}
-use Rattle.std.specs.List.{AllByRecursion as All, flat_map}
+use Rattle.std.specs.List.{AllByRecursion, flat_map}
 use Rattle.std.proofs.lemmas.Bool.{ltb-false, le-ltb, both_ways, cases_lt}
 use Rattle.std.proofs.lemmas.List.{drop_more, get_or-take, get_or-map}
 use Rattle.nodes.specs.declared.edge.Edge.{Edge}
@@ -108,7 +108,7 @@ module _ (nodes : List (Option Node)) (shape : Shape) (store : Store nodes shape
 
 -- An edge with a time and its node
 
-all_later : (f : Edge → Chart) (m : ℕ) (w : Time) (es : List Edge) → All (λ e. length (f e) ≡ m) es → All (λ e. length (later w (f e)) ≡ m) es
+all_later : (f : Edge → Chart) (m : ℕ) (w : Time) (es : List Edge) → AllByRecursion (λ e. length (f e) ≡ m) es → AllByRecursion (λ e. length (later w (f e)) ≡ m) es
 all_later f m w es a = all_map (λ e. length (f e) ≡ m) (λ e. length (later w (f e)) ≡ m) es (λ e h. length-map (f e) (plus w) ∙ h) a
 
 module _ (nodes : List (Option Node)) (shape : Shape) (store : Store nodes shape) (l : ℕ) (lt : l < length shape) (a : Edge) (w : ℕ) (x : Node) (fine : Fine nodes (drop l shape) l a) (weight : a.weight ≡ Some w) (here : x ≡ node_at nodes a.child) where
@@ -118,8 +118,8 @@ module _ (nodes : List (Option Node)) (shape : Shape) (store : Store nodes shape
   pub side_formed : Formed nodes (get_or shape l 0) (drop (l + 1) shape) x
   side_formed = subst (Formed nodes (get_or shape l 0) (drop (l + 1) shape)) (sym here) (led nodes shape store l (get_or shape l 0) (drop (l + 1) shape) a (drop_more shape l 0 lt) leads)
 
-  all_kids : All (Fine nodes (drop (l + 1) shape) (l + 1)) (take (get_or shape l 0) x.edges)
-  all_kids = subst (λ y. All (Fine nodes (drop (l + 1) shape) (l + 1)) (take (get_or shape l 0) y.edges)) (sym here) (kids_of nodes shape store l (get_or shape l 0) (drop (l + 1) shape) a (drop_more shape l 0 lt) leads)
+  all_kids : AllByRecursion (Fine nodes (drop (l + 1) shape) (l + 1)) (take (get_or shape l 0) x.edges)
+  all_kids = subst (λ y. AllByRecursion (Fine nodes (drop (l + 1) shape) (l + 1)) (take (get_or shape l 0) y.edges)) (sym here) (kids_of nodes shape store l (get_or shape l 0) (drop (l + 1) shape) a (drop_more shape l 0 lt) leads)
 
   pub side_chart : chart nodes (drop l shape) a ≡ later (Some w) (body nodes (drop l shape) x)
   side_chart =

@@ -1,7 +1,7 @@
 -- The same chart at each setting of a device. Assumes nothing.
-use Rattle.std.proofs.Common.{◌≡◌, ℕ, zero, suc, ◌+◌, ◌*◌, ◌<◌, Bool, true, false, ◌||◌, List, [], ◌∷◌, ◌++◌, length, get_or, drop, set, Option, sym, refl, ap, ◌∙◌, subst, arith}
-use Rattle.std.specs.List.{AllByRecursion as All, range_with_len, flat_map}
-use Rattle.std.proofs.lemmas.List.{get_or-map}
+use Rattle.std.proofs.Common.{◌≡◌, ℕ, zero, suc, ◌+◌, ◌-◌, ◌*◌, ◌<◌, ◌≤◌, Bool, true, false, ◌||◌, List, [], ◌∷◌, ◌++◌, length, get_or, take, drop, replicate, Option, sym, refl, ap, ◌∙◌, subst, arith, length-append}
+use Rattle.std.specs.List.{AllByRecursion, range_with_len, flat_map}
+use Rattle.std.proofs.lemmas.List.{get_or-map, get_or-replicate, get_or_append_left, get_or-append_right, length-replicate, length-take-le, drop-replicate}
 use Rattle.nodes.specs.declared.edge.Edge.{Edge}
 use Rattle.nodes.specs.declared.node.Node.{Node}
 use Rattle.model.specs.Charts.{Time, Chart, late}
@@ -9,17 +9,17 @@ use Rattle.model.specs.Lists.{In, some}
 use Rattle.model.specs.Parts.{Part, parts, pieces}
 use Rattle.model.specs.Scenes.{Shape, size}
 use Rattle.parts.proofs.Pieces.{pieces_each, length_each}
-use Rattle.store.specs.Stores.{chart, Fine}
+use Rattle.store.specs.Stores.{none_edge, chart, Fine}
 use Rattle.store.specs.Fillings.{Stuck}
 use Rattle.store.proofs.Canon.{knows}
 use Rattle.build.specs.Builds.{Ready, Kids, Grows, Built, Partway, together, piece, spread_chart}
-use Rattle.build.proofs.Steps.{grows_none, grows_then, stuck_wider, piece_parts, partway_more, partway_kids, partway_all}
+use Rattle.build.proofs.Steps.{grows_none, grows_then, stuck_wider, piece_parts, partway_kids, partway_all}
 
 pub counting_length : (a n : ℕ) → length (range_with_len a n) ≡ n
 counting_length a zero = refl
 counting_length a (suc n) = ap suc (counting_length (a + 1) n)
 
-pub all_any : {A : Type 0} (P : A → Type 0) (xs : List A) → ((x : A) → P x) → All P xs
+pub all_any : {A : Type 0} (P : A → Type 0) (xs : List A) → ((x : A) → P x) → AllByRecursion P xs
 all_any P [] h = tt
 all_any P (x ∷ xs) h = (h x, all_any P xs h)
 
@@ -54,28 +54,50 @@ pub some_joined : {A : Type 0} (t : Time → Bool) (f : A → Chart) (xs : List 
 some_joined t f [] h = refl
 some_joined t f (x ∷ xs) h = some_append t (f x) (flat_map f xs) (h x) (some_joined t f xs h)
 
+never_at : (n i : ℕ) → get_or (replicate n none_edge) i none_edge ≡ none_edge
+never_at zero i = refl
+never_at (suc n) zero = refl
+never_at (suc n) (suc i) = never_at n i
+
+-- eight edges of which the first n are filled with one
+pub filled : (m n : ℕ) (kid : Edge) (front : List Edge) → m ≡ n → n ≤ 8 → front ≡ replicate (length (take m (replicate 8 none_edge))) kid → front ++ drop m (replicate 8 none_edge) ≡ replicate n kid ++ replicate (8 - n) none_edge
+filled m n kid front same few is =
+    let eight : 8 ≡ length (replicate 8 none_edge) = sym (length-replicate 8 none_edge) in
+    let long : length (take m (replicate 8 none_edge)) ≡ n = length-take-le m (replicate 8 none_edge) (omega (arith, same, eight)) ∙ same in
+    let a = is ∙ ap (λ k. replicate k kid) long in
+    let b = ap (λ k. drop k (replicate 8 none_edge)) same ∙ drop-replicate n 8 none_edge in
+    λ i. a i ++ b i
+
 module _ (nodes : List (Option Node)) (shape : Shape) (l : ℕ) (kid : Edge) (ready : Ready nodes shape) (lt : l < length shape) (fine : Fine nodes (drop (l + 1) shape) (l + 1) kid) where
   kid_long : length (chart nodes (drop (l + 1) shape) kid) ≡ size (drop (l + 1) shape)
   kid_long = (knows nodes shape ready.store (drop (l + 1) shape) (l + 1) kid refl fine).long
 
-  module _ (i : ℕ) (kids : List Edge) (way : Partway nodes nodes shape l (spread_chart shape l (chart nodes (drop (l + 1) shape) kid)) i kids) where
-    pub spread_more : i < get_or shape l 0 → Partway nodes nodes shape l (spread_chart shape l (chart nodes (drop (l + 1) shape) kid)) (i + 1) (set kids i kid)
-    spread_more il =
-        let c = spread_chart shape l (chart nodes (drop (l + 1) shape) kid) in
-        partway_more nodes nodes nodes shape l c i kids ready.store lt il way (grows_none nodes shape (l + 1) (piece shape l c i) ready) kid (ready.few l) fine (sym (piece_at shape l i (λ _. chart nodes (drop (l + 1) shape) kid) (λ _. kid_long) il))
+  -- the kids of the node: this one for each setting of the device
+  module _ (kids : List Edge) (is : kids ≡ replicate (get_or shape l 0) kid ++ replicate (8 - get_or shape l 0) none_edge) where
+    way : Partway nodes nodes shape l (spread_chart shape l (chart nodes (drop (l + 1) shape) kid)) (get_or shape l 0) kids
+    way =
+        let n = get_or shape l 0 in
+        let ns = drop (l + 1) shape in
+        let c = spread_chart shape l (chart nodes ns kid) in
+        let first = replicate n kid in
+        let rest = replicate (8 - n) none_edge in
+        let few = ready.few l in
+        let here : (k : ℕ) → k < n → get_or kids k none_edge ≡ kid = λ k h. ap (λ es. get_or es k none_edge) is ∙ get_or_append_left first rest none_edge k (omega (arith, h, length-replicate n kid)) ∙ get_or-replicate n k kid none_edge h in
+        record {
+          grows = grows_none nodes shape l c ready;
+          eight = ap length is ∙ length-append first rest ∙ omega (arith, length-replicate n kid, length-replicate (8 - n) none_edge, few);
+          rest = λ k h. ap (λ es. get_or es k none_edge) is ∙ get_or-append_right first rest n k none_edge (length-replicate n kid) h ∙ never_at (8 - n) (k - n);
+          done = λ k h. subst (λ e. Fine nodes ns (l + 1) e × (chart nodes ns e ≡ piece shape l c k)) (sym (here k h)) (fine, sym (piece_at shape l k (λ _. chart nodes ns kid) (λ _. kid_long) h));
+        }
 
-    module _ (all : i ≡ get_or shape l 0) where
-      end : Partway nodes nodes shape l (spread_chart shape l (chart nodes (drop (l + 1) shape) kid)) (get_or shape l 0) kids
-      end = subst (λ k. Partway nodes nodes shape l (spread_chart shape l (chart nodes (drop (l + 1) shape) kid)) k kids) all way
+    pub spread_kids : Kids nodes (get_or shape l 0) (drop (l + 1) shape) l kids
+    spread_kids = partway_kids nodes nodes shape l (spread_chart shape l (chart nodes (drop (l + 1) shape) kid)) kids (ready.few l) way
 
-      pub spread_kids : Kids nodes (get_or shape l 0) (drop (l + 1) shape) l kids
-      spread_kids = partway_kids nodes nodes shape l (spread_chart shape l (chart nodes (drop (l + 1) shape) kid)) kids (ready.few l) end
+    pub spread_is : together nodes shape l kids ≡ spread_chart shape l (chart nodes (drop (l + 1) shape) kid)
+    spread_is = partway_all nodes nodes shape l (spread_chart shape l (chart nodes (drop (l + 1) shape) kid)) kids (ready.few l) way (made_long shape l (λ _. chart nodes (drop (l + 1) shape) kid) (λ _. kid_long))
 
-      pub spread_is : together nodes shape l kids ≡ spread_chart shape l (chart nodes (drop (l + 1) shape) kid)
-      spread_is = partway_all nodes nodes shape l (spread_chart shape l (chart nodes (drop (l + 1) shape) kid)) kids (ready.few l) end (made_long shape l (λ _. chart nodes (drop (l + 1) shape) kid) (λ _. kid_long))
-
-      pub spread_timely : some late (chart nodes (drop (l + 1) shape) kid) ≡ false → some late (together nodes shape l kids) ≡ false
-      spread_timely h = ap (some late) spread_is ∙ some_joined late (λ _. chart nodes (drop (l + 1) shape) kid) (range_with_len 0 (get_or shape l 0)) (λ _. h)
+    pub spread_timely : some late (chart nodes (drop (l + 1) shape) kid) ≡ false → some late (together nodes shape l kids) ≡ false
+    spread_timely h = ap (some late) spread_is ∙ some_joined late (λ _. chart nodes (drop (l + 1) shape) kid) (range_with_len 0 (get_or shape l 0)) (λ _. h)
 
 -- a kid is built, and then spread
 module _ (old mid new : List (Option Node)) (shape : Shape) (l : ℕ) (c : Chart) (ready : Ready old shape) (lt : l < length shape) (long : length c ≡ size (drop (l + 1) shape)) (g : Grows old mid shape (l + 1) c) where

@@ -1,6 +1,6 @@
 -- The steps of any operation that builds a node kid by kid. Assumes nothing.
 use Rattle.std.proofs.Common.{◌≡◌, ℕ, zero, suc, ◌+◌, ◌-◌, ◌*◌, ◌<◌, ◌≤◌, List, [], ◌∷◌, ◌++◌, length, get_or, take, drop, set, replicate, Option, sym, refl, ap, ◌∙◌, subst, inl, inr, suc-mul, arith, length-drop, take-append-drop, below_more}
-use Rattle.std.specs.List.{AllByRecursion as All, flat_map}
+use Rattle.std.specs.List.{AllByRecursion, flat_map}
 use Rattle.std.proofs.lemmas.List.{drop_more, get_or-take, get_or-drop, get_or-replicate, ext_get_or, length-set, get_or-set_same, get_or-set_other, length-replicate, length-take-le}
 use Rattle.nodes.specs.declared.edge.Edge.{Edge}
 use Rattle.nodes.specs.declared.node.Node.{Node}
@@ -95,7 +95,7 @@ module _ (old mid new : List (Option Node)) (shape : Shape) (l : ℕ) (c : Chart
 
 -- the end
 
-all_below : (P : Edge → Type 0) (es : List Edge) → ((k : ℕ) → k < length es → P (get_or es k none_edge)) → All P es
+all_below : (P : Edge → Type 0) (es : List Edge) → ((k : ℕ) → k < length es → P (get_or es k none_edge)) → AllByRecursion P es
 all_below P [] h = tt
 all_below P (e ∷ es) h = (h 0 (omega arith), all_below P es (λ k l. h (suc k) (omega arith)))
 

@@ -1,7 +1,7 @@
 -- Weights with a time subtracted and added again, and charts accordingly. Assumes nothing.
 use Rattle.std.proofs.Common.{◌≡◌, ℕ, ◌+◌, ◌-◌, List, [], ◌∷◌, ◌++◌, map, take, is_some, Some, None, Option, sym, refl, ap, ◌∙◌, arith}
 use mathlib.Core.List.{map-map}
-use Rattle.std.specs.List.{AllByRecursion as All, flat_map}
+use Rattle.std.specs.List.{AllByRecursion, flat_map}
 use Rattle.std.proofs.lemmas.Bool.{both_ways}
 use Rattle.nodes.specs.declared.edge.Edge.{Edge}
 use Rattle.nodes.specs.declared.node.Node.{Node}
@@ -67,7 +67,7 @@ back_here None (Some m) = refl
 back_here (Some w) None = ap {B = Time} Some (omega arith)
 back_here (Some w) (Some m) = ap {B = Time} Some (omega arith)
 
-pub back_all : (es : List Edge) → All (λ e. Back (lowest es) e.weight) es
+pub back_all : (es : List Edge) → AllByRecursion (λ e. Back (lowest es) e.weight) es
 back_all [] = tt
 back_all (e ∷ es) = (back_here e.weight (lowest es), all_map (λ d. Back (lowest es) d.weight) (λ d. Back (lesser e.weight (lowest es)) d.weight) es (λ d h. back_lesser e.weight (lowest es) d.weight h) (back_all es))
 
@@ -90,9 +90,9 @@ chart_back nodes (n ∷ ns) m e h =
     let b = flat_map (chart nodes ns) (take n (node_at nodes e.child).edges) in
     later_later m (less m e.weight) b ∙ ap (λ w. later w b) h
 
-pub body_back : (nodes : List (Option Node)) (ns : Shape) (m : Time) (es : List Edge) → All (λ e. Back m e.weight) es → later m (flat_map (chart nodes ns) (map (lower_by m) es)) ≡ flat_map (chart nodes ns) es
+pub body_back : (nodes : List (Option Node)) (ns : Shape) (m : Time) (es : List Edge) → AllByRecursion (λ e. Back m e.weight) es → later m (flat_map (chart nodes ns) (map (lower_by m) es)) ≡ flat_map (chart nodes ns) es
 body_back nodes ns m es a = map_each (plus m) (chart nodes ns) (map (lower_by m) es) ∙ go es a
   where
-    go : (ds : List Edge) → All (λ e. Back m e.weight) ds → flat_map (λ x. later m (chart nodes ns x)) (map (lower_by m) ds) ≡ flat_map (chart nodes ns) ds
+    go : (ds : List Edge) → AllByRecursion (λ e. Back m e.weight) ds → flat_map (λ x. later m (chart nodes ns x)) (map (lower_by m) ds) ≡ flat_map (chart nodes ns) ds
     go [] b = refl
     go (d ∷ ds) b = let p = chart_back nodes ns m d b.0 in let q = go ds b.1 in λ i. p i ++ q i

@@ -4,9 +4,9 @@ ghost use Rattle.model.specs.Lists.{some};
 ghost use Rattle.store.specs.Stores.{chart, Fine};
 ghost use Rattle.build.specs.Builds.{Ready, Kids, Grows, Built, together, spread_chart};
 
+use crate::lowering::{least, lower_all};
 use crate::reach::highest;
-use crate::times::{least, lower_all};
-use nodes::edge::Edge;
+use nodes::edge::{Edge, NEVER};
 use nodes::node::Node;
 use table::slots::intern;
 
@@ -27,20 +27,16 @@ pub fn make(
     let low = least(&kids);
     let edges = lower_all(kids, low);
     let most = highest(nodes, settings, level + 1, &edges);
-    match intern(
-        nodes,
-        Node {
-            level: level as u8,
-            most,
-            edges,
-        },
-    ) {
-        Some(i) => Some(Edge {
-            weight: low,
-            child: i as u16,
-        }),
-        None => None,
-    }
+    let node = Node {
+        level: level as u8,
+        most,
+        edges,
+    };
+    let i = intern(nodes, node)?;
+    Some(Edge {
+        weight: low,
+        child: i as u16,
+    })
 }
 
 /// The edge to the node that has the same edge for each setting of its device.
@@ -52,13 +48,8 @@ pub fn spread(nodes: &mut [Option<Node>], settings: &[u8], level: usize, kid: Ed
     ensures grows { Grows nodes.old nodes.new settings.now level (spread_chart settings.now level (chart nodes.old (drop (level + 1) settings.now) kid)) }
     ensures built { Built nodes.new settings.now level (spread_chart settings.now level (chart nodes.old (drop (level + 1) settings.now) kid)) result }
 {
-    let count = settings[level] as usize;
-    let mut kids = [Edge {
-        weight: None,
-        child: 0,
-    }; 8];
-    for i in 0..count {
-        kids[i] = kid;
-    }
+    let count = usize::from(settings[level]);
+    let mut kids = [NEVER; 8];
+    kids[..count].fill(kid);
     make(nodes, settings, level, kids)
 }

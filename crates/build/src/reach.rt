@@ -1,39 +1,25 @@
 ghost use Rattle.std.specs.Prelude.{◌≡◌, ◌≤◌, false, length, drop, Some};
 ghost use Rattle.model.specs.Charts.{plus, late};
 ghost use Rattle.store.specs.Stores as stores;
-ghost use Rattle.table.specs.Tables.{slot};
 ghost use Rattle.build.specs.Builds.{raised};
 
-use crate::times::greater;
-use nodes::edge::Edge;
+use nodes::edge::{Edge, NEVER};
 use nodes::node::Node;
+use table::slots::taken;
+use times::{greater, plus};
 
-/// An edge that is never throughout, past a device's last setting.
-const NO_EDGE: Edge = Edge {
-    weight: None,
-    child: 0,
+/// A node without times.
+const NO_NODE: Node = Node {
+    level: 0,
+    most: None,
+    edges: [NEVER; 8],
 };
-
-/// What a slot holds; one that is not there holds nothing.
-fn slot_at(nodes: &[Option<Node>], i: u16) -> Option<Node>
-    ensures { result ≡ slot nodes.now i }
-{
-    let i = i as usize;
-    if i < nodes.len() { nodes[i] } else { None }
-}
 
 /// The node in a slot; a free slot stands for a node without times.
 pub fn node_at(nodes: &[Option<Node>], i: u16) -> Node
     ensures { result ≡ stores.node_at nodes.now i }
 {
-    match slot_at(nodes, i) {
-        Some(x) => x,
-        None => Node {
-            level: 0,
-            most: None,
-            edges: [NO_EDGE; 8],
-        },
-    }
+    taken(nodes, usize::from(i)).unwrap_or(NO_NODE)
 }
 
 /// The greatest time below an edge that leads to a level, its weight apart.
@@ -54,10 +40,7 @@ fn reach(nodes: &[Option<Node>], settings: &[u8], level: usize, e: Edge) -> Opti
     requires timely { late (plus e.weight (stores.below nodes.now (drop level settings.now) e)) ≡ false }
     ensures { result ≡ plus e.weight (stores.below nodes.now (drop level settings.now) e) }
 {
-    match (e.weight, below(nodes, settings, level, e)) {
-        (Some(w), Some(b)) => Some(w + b),
-        _ => None,
-    }
+    plus(e.weight, below(nodes, settings, level, e))
 }
 
 /// The greatest time of some edges that lead to a level.
@@ -78,11 +61,8 @@ pub fn raise(e: Edge, by: u64) -> Edge
     requires { late (plus (Some by) e.weight) ≡ false }
     ensures { result ≡ raised (Some by) e }
 {
-    match e.weight {
-        None => e,
-        Some(w) => Edge {
-            weight: Some(by + w),
-            child: e.child,
-        },
+    Edge {
+        weight: plus(Some(by), e.weight),
+        ..e
     }
 }

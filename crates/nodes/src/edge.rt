@@ -6,3 +6,9 @@ pub struct Edge {
     pub weight: Option<u64>,
     pub child: u16,
 }
+
+/// An edge that is never throughout.
+pub const NEVER: Edge = Edge {
+    weight: None,
+    child: 0,
+};

@@ -1,5 +1,9 @@
 -- What is found, as a whole. Assumes nothing.
-use Rattle.std.proofs.Common.{◌≡◌, ℕ, ◌≤◌, Bool, true, false, List, [], ◌∷◌, ◌++◌, length, drop, Some, None, Ok, Err, Option, Result, sym, refl, ap, ◌∙◌, subst, inl, inr, arith}
+use Rattle.std.proofs.Common.{◌≡◌, ℕ, ◌≤◌, Bool, true, false, not, eqb, List, [], ◌∷◌, ◌++◌, length, drop, Some, None, Ok, Err, Option, Result, sym, refl, ap, ◌∙◌, subst, inl, inr, arith}
+use Rattle.std.specs.Bool.{Decides}
+use Rattle.std.specs.Cmp.Lexicographic.{pointwise}
+use Rattle.std.proofs.lemmas.Bool.Decides.{Decides-eqb}
+use Rattle.std.proofs.lemmas.Slice.Eq.{slice_eq-Decides}
 use Rattle.model.specs.Contents.{Contents}
 use Rattle.model.specs.Shelves.{Meaning}
 use Rattle.theory.specs.Alike.{Alike}
@@ -18,6 +22,14 @@ use Rattle.steps.specs.declared.fault.PlanFault.TheVariants.{ShapesDiffer, NoRoo
 use Rattle.steps.specs.Faults.{step_of}
 use Rattle.planner.specs.Walking.{written, Walked}
 use Rattle.planner.specs.Plans.{cleared, Filled, ShortFor, Fills, Found, Planned}
+
+-- lists that `!=` does not tell apart are the same
+pub same_by_ne : (xs ys : List ℕ) (b : Bool) → b ≡ not (pointwise eqb xs ys) → b ≡ false → xs ≡ ys
+same_by_ne xs ys b e f = go (pointwise eqb xs ys) (slice_eq-Decides Decides-eqb xs ys _ refl) (sym f ∙ e)
+  where
+    go : (r : Bool) → Decides r (xs ≡ ys) → false ≡ not r → xs ≡ ys
+    go true d h = d.0 refl
+    go false d h = let z : ◌≡◌ {A = ℕ} 0 1 = cc in absurd (omega arith)
 
 pub alike_self : (c : Contents) → Alike c c
 alike_self c = record { moves = λ k. refl; same_scene = refl; same_masks = refl }

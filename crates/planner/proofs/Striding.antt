@@ -1,7 +1,8 @@
 -- Where a move leads, and whether it loses no time. Assumes nothing.
-use Rattle.std.proofs.Common.{◌≡◌, ℕ, ◌+◌, ◌-◌, ◌<◌, ◌≤◌, Bool, true, false, cond, not, eqb, leb, List, [], ◌∷◌, length, Some, None, Ok, sym, refl, ap, ◌∙◌, subst, arith}
+use Rattle.std.proofs.Common.{◌≡◌, ℕ, ◌+◌, ◌-◌, ◌<◌, ◌≤◌, ◌==◌, Bool, true, false, cond, not, eqb, leb, List, [], ◌∷◌, length, Some, None, Ok, Err, Result, sym, refl, ap, ◌∙◌, subst, arith}
 use Rattle.std.proofs.lemmas.Bool.{lt-leb}
-use Rattle.std.proofs.lemmas.Bool.Decides.{nat_tests}
+use Rattle.std.specs.Bool.{then_some, Decides}
+use Rattle.std.proofs.lemmas.Bool.Decides.{nat_tests, Decides-eqb}
 use Rattle.lists.specs.Shorts.{listed}
 use Rattle.model.specs.Lists.{some_two}
 use Rattle.model.specs.Scenes.{Shape, Scene, SceneOf}
@@ -15,6 +16,9 @@ use Rattle.theory.specs.Iteration.{through, later}
 use Rattle.theory.specs.Tables.{action_of}
 use Rattle.theory.specs.Wellformed.{LawfulMove}
 use Rattle.theory.proofs.Tabling.{lawful_action}
+use Rattle.shelf.specs.declared.fault.ShelfFault.{ShelfFault}
+use Rattle.shelf.specs.Faults.{numbered}
+use Rattle.steps.proofs.Steps.{err_is_not_ok}
 use Rattle.planner.specs.declared.point.Point.{Point}
 use Rattle.planner.specs.Walking.{first_peg, Ready, Stands, Leads, Led}
 
@@ -33,6 +37,11 @@ reads_time m s hung within =
     let few : some_two leb m.shape s ≡ false = none_high m.shape s within in
     let same : not (eqb (length s) (length m.shape)) ≡ false = grind (arith, nat_tests) in
     rw (same, few, hung)
+
+-- a call that is answered, by the number that it might be refused with
+pub answered : {X : Type 0} (r : Result X ShelfFault) (x : X) → numbered r ≡ Ok x → r ≡ Ok x
+answered (Ok y) x e = let same : y ≡ x = cc in ap Ok same
+answered (Err f) x e = absurd (err_is_not_ok _ _ e)
 
 -- what was said of a slice holds of what it lends
 pub said_of : (b : Bool) (s s' : Scene) (ps ps' : List model.Pair) → s' ≡ s → ps' ≡ ps → b ≡ all_hold s' ps' → all_hold s ps ≡ b
@@ -96,6 +105,14 @@ module _ (c : Contents) (m : Meaning) (ready : Ready c m) (p : Point) (stands : 
           stands = record { within = subst (SceneOf c.settings) (sym e) next_within; timed = ap v e ∙ after };
           less = omega arith;
         }
+
+    -- it is asked whether it loses time
+    pub led_if : (q : Point) (u : ℕ) → listed q.scene ≡ next → time a (listed p.scene) ≤ p.left → q.left ≡ p.left - time a (listed p.scene) → v next ≡ Some u → Led c m p (Some (action_of a)) (then_some (u == q.left) q)
+    led_if q u e le is after = go (u == q.left) (Decides-eqb u q.left)
+      where
+        go : (b : Bool) → Decides b (u ≡ q.left) → Led c m p (Some (action_of a)) (then_some b q)
+        go true d = leads q e le is (after ∙ ap Some (d.0 refl))
+        go false d = loses (Some u) after (λ z. let y : ◌≡◌ {A = Bool} false true = d.1 (some_is _ _ z ∙ sym is) in let n : ◌≡◌ {A = ℕ} 0 1 = cc in absurd (omega arith))
 
 -- peg 0 in the words of the shelf's own shape
 pub first_peg_is : (c : Contents) (m : Meaning) → Ready c m → (s t : Scene) (o : Time) → s ≡ t → o ≡ at m.shape (on m.pegs 0) s → first_peg c m t ≡ o

@@ -1,5 +1,5 @@
 //! Planning: the quickest run of moves to a wanted scene, the first of them by its numbers.
-ghost use Rattle.std.specs.Prelude.{◌≡◌, ◌≤◌, Some, Decides};
+ghost use Rattle.std.specs.Prelude.{◌≡◌, ◌≤◌, Some};
 ghost use Rattle.model.specs.Calls.{Lawful};
 ghost use Rattle.rule.specs.Rule.{count, rule};
 ghost use Rattle.rule.specs.Running.{Fits};
@@ -24,13 +24,6 @@ fn clear<S: Shelf>(shelf: &mut S)
     for peg in 0..WORK_PEGS {
         let _ = shelf.wipe(peg);
     }
-}
-
-/// Whether two shapes are the same.
-fn alike(left: &[u8], right: &[u8]) -> bool
-    ensures { Decides result (left.now ≡ right.now) }
-{
-    left == right
 }
 
 /// The best way: its moves are counted before the sheet is written.
@@ -76,7 +69,7 @@ fn search<S: Shelf>(rig: &Rig, shelf: &mut S, sheet: &mut [u8]) -> Result<Plan, 
 pub fn plan<S: Shelf>(rig: &Rig, shelf: &mut S, sheet: &mut [u8]) -> Result<Plan, PlanFault>
     ensures planned { Planned (contents rig.now) (S.meaning shelf.old) sheet.old result (S.meaning shelf.new) sheet.new }
 {
-    if !alike(shelf.shape(), rig.settings()) {
+    if shelf.shape() != rig.settings() {
         return Err(PlanFault::ShapesDiffer);
     }
     clear(shelf);

@@ -25,10 +25,7 @@ pub(crate) fn time_from<S: Shelf>(shelf: &S, scene: &[u8]) -> Option<u64>
     requires within { SceneOf (S.meaning shelf.now).shape scene.now }
     ensures value { result ≡ at (S.meaning shelf.now).shape (on (S.meaning shelf.now).pegs 0) scene.now }
 {
-    match shelf.at(0, scene) {
-        Ok(time) => time,
-        Err(_) => unreachable(),
-    }
+    shelf.at(0, scene).unwrap()
 }
 
 /// Where a move leads, if it may be made and loses no time.
@@ -43,20 +40,11 @@ fn led_by_move<S: Shelf>(rig: &Rig, shelf: &S, point: &Point, entry: &Move) -> O
         return None;
     }
     let time = u64::from(entry.time(scene.as_slice()));
-    if time > point.left {
-        return None;
-    }
-    let left = point.left - time;
+    let left = point.left.checked_sub(time)?;
     let mut next = scene;
     apply(entry.effects(), &mut next);
-    match time_from(shelf, next.as_slice()) {
-        Some(after) => if after == left {
-            Some(Point { scene: next, left })
-        } else {
-            None
-        },
-        None => None,
-    }
+    let after = time_from(shelf, next.as_slice())?;
+    (after == left).then_some(Point { scene: next, left })
 }
 
 /// Where the move of a slot leads, if there is one that may be made and loses no time.
@@ -66,10 +54,7 @@ fn led<S: Shelf>(rig: &Rig, shelf: &S, point: &Point, slot: &Option<Move>) -> Op
     requires lawful { LawfulSlot (contents rig.now).settings (slot_of slot.now) }
     ensures led { Led (contents rig.now) (S.meaning shelf.now) point.now (action_in (slot_of slot.now)) result }
 {
-    match slot {
-        Some(entry) => led_by_move(rig, shelf, point, entry),
-        None => None,
-    }
+    led_by_move(rig, shelf, point, slot.as_ref()?)
 }
 
 /// The move of the smallest number that loses no time, and where it leads.
@@ -79,9 +64,8 @@ fn next_stride<S: Shelf>(rig: &Rig, shelf: &S, point: &Point) -> Stride
     requires far { 0 < point.now.left }
     ensures strides { Strides (contents rig.now) (S.meaning shelf.now) point.now result }
 {
-    let slots = rig.slots();
-    for number in 0..slots.len() {
-        if let Some(end) = led(rig, shelf, point, &slots[number]) {
+    for (number, slot) in rig.slots().iter().enumerate() {
+        if let Some(end) = led(rig, shelf, point, slot) {
             return Stride {
                 number: number as u8,
                 end,
@@ -97,9 +81,9 @@ fn beginning(rig: &Rig, time: u64) -> Point
     ensures scene { listed result.scene ≡ (contents rig.now).scene }
     ensures left { result.left ≡ time }
 {
-    match Short::of(rig.scene(), 0) {
-        Some(scene) => Point { scene, left: time },
-        None => unreachable(),
+    Point {
+        scene: Short::of(rig.scene(), 0).unwrap(),
+        left: time,
     }
 }
 
@@ -107,6 +91,7 @@ fn beginning(rig: &Rig, time: u64) -> Point
 fn note(sheet: &mut [u8], place: usize, number: u8)
     ensures { sheet.new ≡ slice_set sheet.old place number }
 {
+    // By index: after a write through `get_mut` a proof knows no element of a slice.
     if place < sheet.len() {
         sheet[place] = number;
     }

@@ -9,7 +9,7 @@ use steps::hanging::Hanging;
 
 #[test]
 fn lines_of_verdicts(rt: HostRuntime) -> Result<(), Fail> {
-    let way = Verdict::of(&Ok(Plan::Way {
+    let way = Verdict::from(Ok(Plan::Way {
         moves: 3,
         time: 55,
         rounds: 2,
@@ -18,9 +18,9 @@ fn lines_of_verdicts(rt: HostRuntime) -> Result<(), Fail> {
         way.to_string(rt.alloc())?.as_str(),
         "way 3 moves 55 tenths 2 rounds"
     );
-    let none = Verdict::of(&Ok(Plan::NoWay { rounds: 0 }));
+    let none = Verdict::from(Ok(Plan::NoWay { rounds: 0 }));
     assert_eq!(rt; none.to_string(rt.alloc())?.as_str(), "no way 0 rounds");
-    let short = Verdict::of(&Err(PlanFault::SheetShort { needed: 3 }));
+    let short = Verdict::from(Err(PlanFault::SheetShort { needed: 3 }));
     assert_eq!(rt; short.to_string(rt.alloc())?.as_str(), "refused 19");
     Ok(())
 }

@@ -25,11 +25,11 @@ pub enum Verdict {
     },
 }
 
-impl Verdict {
-    /// What a plan answered.
-    pub fn of(answer: &Result<Plan, PlanFault>) -> Verdict
-        ensures { result ≡ said answer.now }
-    {
+/// What a plan answered.
+impl From<Result<Plan, PlanFault>> for Verdict {
+    ghost from_gives = { λ x y. y ≡ said x };
+
+    fn from(answer: Result<Plan, PlanFault>) -> Verdict {
         match answer {
             Ok(
                 Plan::Way {
@@ -39,12 +39,12 @@ impl Verdict {
                 },
             ) => {
                 Verdict::Way {
-                    moves: *moves,
-                    time: *time,
-                    rounds: *rounds,
+                    moves,
+                    time,
+                    rounds,
                 }
             }
-            Ok(Plan::NoWay { rounds }) => Verdict::NoWay { rounds: *rounds },
+            Ok(Plan::NoWay { rounds }) => Verdict::NoWay { rounds },
             Err(fault) => Verdict::Refused {
                 number: fault.number(),
             },

@@ -62,7 +62,7 @@ impl fmt::Display for MoveWords {
 }
 
 /// Why a plan was sent back from a shelf of so many slots, in words.
-#[derive(Clone, Copy)]
+#[derive(Clone, Copy, PartialEq, Eq, Debug)]
 pub struct PlanWords {
     pub fault: PlanFault,
     pub slots: usize,

@@ -1,27 +1,31 @@
--- What a call answers and leaves, by the fault that it met. Assumes nothing.
-use Rattle.std.proofs.Common.{◌≡◌, ℕ, IsErrAnd, Ok, Err, Result, sym, ap, ◌∙◌}
+-- What a call answers and leaves, by the fault that it met or by what it stored. Assumes nothing.
+use Rattle.std.proofs.Common.{◌≡◌, ℕ, List, ◌++◌, Ok, Err, Option, Result, IsErrAnd, sym, ap, ◌∙◌}
 use Rattle.std.proofs.lemmas.Result.{err_from_is_err_and}
-use Rattle.model.specs.Refusals.{left_by}
-use Rattle.model.proofs.Refusing.{left_ok, left_err}
+use Rattle.model.specs.Scenes.{Shape}
+use Rattle.model.specs.Moves as model
+use Rattle.model.specs.Refusals.{Check, answer, left_by}
+use Rattle.model.specs.Contents.{Contents, with_slot}
+use Rattle.model.proofs.Refusing.{accepted_first, left_ok, left_err}
 use Rattle.moves.specs.declared.fault.RigFault.{RigFault}
 use Rattle.moves.specs.Faults.{number, numbered}
 
-module _ {T C : Type 0} (defined : Result T ℕ) (new old : C) where
-  -- a refusal that leaves all as it was
-  pub record Refused (r : Result T RigFault) : Type 0 where
-    pub answer : numbered r ≡ defined
-    pub left : old ≡ left_by defined new old
+-- a `?` that refuses: the call answers the fault's number, and leaves all as it was
+pub record Refused {T C : Type 0} (defined : Result T ℕ) (new old : C) (r : Result T RigFault) : Type 0 where
+  pub answer : numbered r ≡ defined
+  pub left : old ≡ left_by defined new old
 
-  pub refused : (f : RigFault) → defined ≡ Err (number f) → (r : Result T RigFault) → r ≡ Err f → Refused r
-  refused f e r h = record { answer = ap numbered h ∙ sym e; left = sym (left_err defined (number f) new old e) }
+pub refused_by : {T C : Type 0} (defined : Result T ℕ) (new old : C) (f : RigFault) → defined ≡ Err (number f) → (r : Result T RigFault) → IsErrAnd r (λ y. y ≡ f) → Refused defined new old r
+refused_by defined new old f e r h =
+    let p = err_from_is_err_and r h in
+    record { answer = ap numbered (p.1 ∙ ap Err p.2) ∙ sym e; left = sym (left_err defined (number f) new old e) }
 
-  -- the exit of a `?`
-  pub refused_by : (f : RigFault) → defined ≡ Err (number f) → (r : Result T RigFault) → IsErrAnd r (λ y. y ≡ f) → Refused r
-  refused_by f e r h = let p = err_from_is_err_and r h in refused f e r (p.1 ∙ ap Err p.2)
+-- the checks of a slot passed, and those by the shape were answered
+pub then_judged : (c : Contents) (first : List (Option model.Move) → List Check) (checks : Shape → List Check) (xs : List (Option model.Move)) (ns : Shape) (r : Result (Unit {0}) ℕ) → xs ≡ c.slots → ns ≡ c.settings → answer (first xs) (tt {0}) ≡ Ok (tt {0}) → answer (checks ns) (tt {0}) ≡ r → answer (first c.slots ++ checks c.settings) (tt {0}) ≡ r
+then_judged c first checks xs ns r seen shape passed e =
+    accepted_first (first c.slots) (checks c.settings) tt tt tt (ap (λ (l : List (Option model.Move)). answer (first l) tt) (sym seen) ∙ passed)
+    ∙ ap (λ (k : Shape). answer (checks k) tt) (sym shape)
+    ∙ e
 
-  -- an answer
-  pub accepted : (x : T) → defined ≡ Ok x → (r : Result T RigFault) → r ≡ Ok x → numbered r ≡ defined
-  accepted x e r h = ap numbered h ∙ sym e
-
-  pub accepted_left : (x : T) → defined ≡ Ok x → (now : C) → now ≡ new → now ≡ left_by defined new old
-  accepted_left x e now h = h ∙ sym (left_ok defined x new old e)
+-- an accepted call that wrote what it should in a slot
+pub left_written : (c : Contents) (r : Result (Unit {0}) ℕ) (n : ℕ) (o p : Option model.Move) → p ≡ o → r ≡ Ok tt → with_slot c n p ≡ left_by r (with_slot c n o) c
+left_written c r n o p same passed = ap (with_slot c n) same ∙ sym (left_ok r tt (with_slot c n o) c passed)

@@ -1,7 +1,5 @@
-pub mod Seen
-pub mod Keeping
-pub mod Writing
+-- Two lists side by side: Pairs; a table with one slot rewritten: Storing; what a call answers and leaves: Answering; an opening: OpeningSeen
+pub mod Pairs
+pub mod Storing
 pub mod Answering
-pub mod Performing
-pub mod Editing
 pub mod OpeningSeen

@@ -1,3 +1,4 @@
+pub mod Holding
 pub mod Slots
 pub mod Rigs
 pub mod Openings

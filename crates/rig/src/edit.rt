@@ -17,9 +17,8 @@ impl Rig {
         ensures answer { numbered result ≡ adds (contents self.old) number (draft_of draft.now) }
         ensures left { contents self.new ≡ added (contents self.old) number (draft_of draft.now) }
     {
-        vacant(self.slots.as_slice(), number)?;
-        let settings = self.devices.settings;
-        let entry = draft.lawful(settings.as_slice())?;
+        vacant(self.slots(), number)?;
+        let entry = draft.lawful(self.settings())?;
         store(self.slots.as_mut_slice(), number, Some(entry));
         Ok(())
     }
@@ -29,9 +28,8 @@ impl Rig {
         ensures answer { numbered result ≡ retimes (contents self.old) number base (charges_of charges.now) }
         ensures left { contents self.new ≡ retimed (contents self.old) number base (charges_of charges.now) }
     {
-        let _ = occupied(self.slots.as_slice(), number)?;
-        let settings = self.devices.settings;
-        let surcharges = lawful_times(base, charges, settings.as_slice())?;
+        occupied(self.slots(), number)?;
+        let surcharges = lawful_times(base, charges, self.settings())?;
         retime(self.slots.as_mut_slice(), number, base, surcharges);
         Ok(())
     }

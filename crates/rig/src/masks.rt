@@ -5,7 +5,7 @@ ghost use Rattle.model.specs.Limits.{most_devices};
 ghost use Rattle.model.specs.Masks.{ill, admits, wanted, product_of_ones};
 
 /// Whether a mask admits nothing, or has a bit for no setting of a device with so many.
-pub(crate) fn is_ill(mask: u8, settings: u8) -> bool
+fn is_ill(mask: u8, settings: u8) -> bool
     ensures { result ≡ ill mask settings }
 {
     mask == 0 || (settings < 8 && mask >= 1u8 << settings)
@@ -13,15 +13,12 @@ pub(crate) fn is_ill(mask: u8, settings: u8) -> bool
 
 /// Whether some mask is ill for its device.
 pub(crate) fn some_ill(masks: &[u8], settings: &[u8]) -> bool
-    requires { length masks.now ≤ length settings.now }
     ensures { result ≡ some_two ill masks.now settings.now }
 {
-    for i in 0..masks.len() {
-        if is_ill(masks[i], settings[i]) {
-            return true;
-        }
-    }
-    false
+    masks
+        .iter()
+        .zip(settings)
+        .any(|(mask, count)| is_ill(*mask, *count))
 }
 
 /// How many scenes the masks want.
@@ -29,15 +26,14 @@ pub(crate) fn product(masks: &[u8]) -> u64
     requires { length masks.now ≤ most_devices }
     ensures { result ≡ product_of_ones masks.now }
 {
-    let mut product = 1;
-    for mask in masks {
-        product *= u64::from(mask.count_ones());
-    }
-    product
+    masks
+        .iter()
+        .map(|mask| u64::from(mask.count_ones()))
+        .product()
 }
 
 /// Whether a mask admits a setting.
-pub(crate) fn is_admitted(mask: u8, setting: u8) -> bool
+fn is_admitted(mask: u8, setting: u8) -> bool
     ensures { result ≡ admits mask setting }
 {
     setting < 8 && (mask >> setting) % 2 == 1
@@ -45,13 +41,10 @@ pub(crate) fn is_admitted(mask: u8, setting: u8) -> bool
 
 /// Whether every setting of the scene is admitted.
 pub(crate) fn every_admitted(masks: &[u8], scene: &[u8]) -> bool
-    requires { length masks.now ≤ length scene.now }
     ensures { result ≡ wanted masks.now scene.now }
 {
-    for i in 0..masks.len() {
-        if !is_admitted(masks[i], scene[i]) {
-            return false;
-        }
-    }
-    true
+    masks
+        .iter()
+        .zip(scene)
+        .all(|(mask, setting)| is_admitted(*mask, *setting))
 }

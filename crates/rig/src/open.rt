@@ -1,7 +1,7 @@
 //! Open: a rig with every slot vacant and every setting wanted.
 ghost use Rattle.std.specs.Prelude.{◌≡◌, ◌≤◌, false, map, length, vec_len, MatchOption};
 ghost use Rattle.lists.specs.Shorts.{listed};
-ghost use Rattle.model.specs.Limits.{most_settings, most_devices};
+ghost use Rattle.model.specs.Limits.{least_settings, most_settings};
 ghost use Rattle.model.specs.Scenes.{shape_off};
 ghost use Rattle.model.specs.Masks.{all_of};
 ghost use Rattle.rig.specs.Openings.{Stood, Opened};
@@ -9,7 +9,6 @@ ghost use Rattle.rig.specs.Openings.{Stood, Opened};
 use crate::devices::Devices;
 use crate::frame::Rig;
 use crate::opening::judge_opening;
-use crate::slots::vacate;
 use crate::unopened::Unopened;
 use lists::limits::*;
 use lists::names::Name;
@@ -19,10 +18,11 @@ use moves::fault::RigFault;
 
 /// The mask that admits every setting of a device with so many.
 fn mask_of_all(settings: u8) -> u8
-    requires { settings ≤ most_settings }
+    requires some { least_settings ≤ settings }
+    requires few { settings ≤ most_settings }
     ensures { result ≡ all_of settings }
 {
-    ((1u16 << settings) - 1) as u8
+    u8::MAX >> (8 - settings)
 }
 
 /// A mask for each device that admits all its settings.
@@ -48,15 +48,9 @@ impl Devices {
         ensures { Stood settings.now names.now scene.now slots result }
     {
         judge_opening(settings, names, scene, slots)?;
-        let Some(settings) = Short::of(settings, 0) else {
-            return Err(RigFault::CountsOff);
-        };
-        let Some(names) = Short::of(names, [0; 8]) else {
-            return Err(RigFault::CountsOff);
-        };
-        let Some(scene) = Short::of(scene, 0) else {
-            return Err(RigFault::CountsOff);
-        };
+        let settings = Short::of(settings, 0).ok_or(RigFault::CountsOff)?;
+        let names = Short::of(names, [0; 8]).ok_or(RigFault::CountsOff)?;
+        let scene = Short::of(scene, 0).ok_or(RigFault::CountsOff)?;
         let masks = all_masks(&settings);
         Ok(Devices {
             settings,
@@ -74,14 +68,14 @@ impl Rig {
         settings: &[u8],
         names: &[Name],
         scene: &[u8],
-        slots: Vec<Option<Move>>,
+        mut slots: Vec<Option<Move>>,
     ) -> Result<Rig, Unopened>
         ensures { Opened settings.now names.now scene.now slots result }
     {
+        // No `map_err` and `?`: the closure would take the table that an accepted opening keeps.
         match Devices::open(settings, names, scene, slots.len()) {
             Ok(devices) => {
-                let mut slots = slots;
-                vacate(slots.as_mut_slice());
+                slots.fill(None);
                 Ok(Rig { devices, slots })
             }
             Err(fault) => Err(Unopened { fault, slots }),

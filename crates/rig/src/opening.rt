@@ -1,5 +1,5 @@
 //! Open: what is looked at, and what it leaves.
-ghost use Rattle.std.specs.Prelude.{◌≡◌, ◌≤◌, true, length, nat_le};
+ghost use Rattle.std.specs.Prelude.{◌≡◌, nat_le};
 ghost use Rattle.model.specs.Limits.{outside, least_byte, most_byte};
 ghost use Rattle.model.specs.Lists.{some, some_two};
 ghost use Rattle.model.specs.Calls.{counts_off as are_counts_off, opens};
@@ -15,25 +15,19 @@ use moves::fault::RigFault;
 fn some_name_off(names: &[Name]) -> bool
     ensures { result ≡ some (some (outside least_byte most_byte)) names.now }
 {
-    for name in names {
-        if some_outside(LEAST_BYTE, MOST_BYTE, name) {
-            return true;
-        }
-    }
-    false
+    names
+        .iter()
+        .any(|name| some_outside(LEAST_BYTE, MOST_BYTE, name))
 }
 
 /// Whether some setting is too high for its device.
 fn some_high(settings: &[u8], scene: &[u8]) -> bool
-    requires { length settings.now ≤ length scene.now }
     ensures { result ≡ some_two nat_le settings.now scene.now }
 {
-    for i in 0..settings.len() {
-        if settings[i] <= scene[i] {
-            return true;
-        }
-    }
-    false
+    settings
+        .iter()
+        .zip(scene)
+        .any(|(count, setting)| count <= setting)
 }
 
 /// Whether there are too few or too many devices or settings, or a list has not one item per device.
@@ -58,7 +52,7 @@ pub(crate) fn judge_opening(
     if some_name_off(names) {
         return Err(RigFault::NameByteOff);
     }
-    if slots < 1 || slots > MOST_SLOTS {
+    if !(1..=MOST_SLOTS).contains(&slots) {
         return Err(RigFault::SlotsOff);
     }
     if some_high(settings, scene) {

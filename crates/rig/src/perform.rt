@@ -16,14 +16,12 @@ impl Rig {
         ensures left { contents self.new ≡ performed (contents self.old) number }
         ensures moved { Moved (contents self.old) number (numbered result) (contents self.new) }
     {
-        let entry = occupied(self.slots.as_slice(), number)?;
-        let mut scene = self.devices.scene;
-        if !every_holds(entry.conditions(), scene.as_slice()) {
+        let entry = *occupied(self.slots(), number)?;
+        if !every_holds(entry.conditions(), self.scene()) {
             return Err(RigFault::ConditionUnmet);
         }
-        let time = entry.time(scene.as_slice());
-        apply(entry.effects(), &mut scene);
-        self.devices.scene = scene;
+        let time = entry.time(self.scene());
+        apply(entry.effects(), &mut self.devices.scene);
         Ok(time)
     }
 
@@ -32,7 +30,7 @@ impl Rig {
         ensures answer { numbered result ≡ withdraws (contents self.old) number }
         ensures left { contents self.new ≡ withdrawn (contents self.old) number }
     {
-        let _ = occupied(self.slots.as_slice(), number)?;
+        occupied(self.slots(), number)?;
         store(self.slots.as_mut_slice(), number, None);
         Ok(())
     }
@@ -41,11 +39,8 @@ impl Rig {
     pub fn look(&self, device: usize) -> Result<(u8, u8), RigFault>
         ensures { numbered result ≡ looks (contents self.now) device }
     {
-        let scene = self.devices.scene.as_slice();
-        let masks = self.devices.masks.as_slice();
-        if device >= scene.len() {
-            return Err(RigFault::DeviceHigh);
-        }
-        Ok((scene[device], masks[device]))
+        let setting = self.scene().get(device).ok_or(RigFault::DeviceHigh)?;
+        let mask = self.masks().get(device).ok_or(RigFault::DeviceHigh)?;
+        Ok((*setting, *mask))
     }
 }

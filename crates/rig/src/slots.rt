@@ -1,8 +1,10 @@
 //! The table of move slots, lent as a slice: one slot is read or rewritten by its number.
-ghost use Rattle.std.specs.Prelude.{◌≡◌, ℕ, ◌<◌, map, length, replicate, None, slice_set};
+ghost use Rattle.std.specs.Prelude.{◌≡◌, ◌<◌, map, length, Some, None, Option, slice_index_or, slice_set};
 ghost use Rattle.lists.specs.Shorts.{listed};
-ghost use Rattle.moves.specs.Views.{surcharge_of};
-ghost use Rattle.rig.specs.Slots.{in_use_at, vacant_at, Retimed};
+ghost use Rattle.model.specs.Refusals.{answer};
+ghost use Rattle.moves.specs.Faults.{Judged, numbered};
+ghost use Rattle.moves.specs.Views.{surcharge_of, move_of, slot_of};
+ghost use Rattle.rig.specs.Slots.{use_checks, vacancy_checks, retimed_in};
 
 use lists::limits::*;
 use lists::short::Short;
@@ -10,28 +12,18 @@ use moves::entry::{Move, Surcharge};
 use moves::fault::RigFault;
 
 /// The move in a slot.
-pub(crate) fn occupied(slots: &[Option<Move>], number: usize) -> Result<Move, RigFault>
-    ensures { result ≡ in_use_at slots.now number }
+pub(crate) fn occupied(slots: &[Option<Move>], number: usize) -> Result<&Move, RigFault>
+    ensures { Judged (use_checks (map slot_of slots.now) number) (λ m. (slice_index_or slots.now number None ≡ Some m.now) × (slice_index_or (map slot_of slots.now) number None ≡ Some (move_of m.now))) result }
 {
-    if number >= slots.len() {
-        return Err(RigFault::NumberHigh);
-    }
-    let slot = slots[number];
-    match slot {
-        Some(entry) => Ok(entry),
-        None => Err(RigFault::SlotVacant),
-    }
+    let slot = slots.get(number).ok_or(RigFault::NumberHigh)?;
+    slot.as_ref().ok_or(RigFault::SlotVacant)
 }
 
 /// That there is such a slot, and that it is vacant.
 pub(crate) fn vacant(slots: &[Option<Move>], number: usize) -> Result<(), RigFault>
-    ensures { result ≡ vacant_at slots.now number }
+    ensures { numbered result ≡ answer (vacancy_checks (map slot_of slots.now) number) tt }
 {
-    if number >= slots.len() {
-        return Err(RigFault::NumberHigh);
-    }
-    let slot = slots[number];
-    match slot {
+    match slots.get(number).ok_or(RigFault::NumberHigh)? {
         Some(_) => Err(RigFault::SlotInUse),
         None => Ok(()),
     }
@@ -40,12 +32,13 @@ pub(crate) fn vacant(slots: &[Option<Move>], number: usize) -> Result<(), RigFau
 /// Rewrites one slot.
 pub(crate) fn store(slots: &mut [Option<Move>], number: usize, entry: Option<Move>)
     requires { number < length slots.old }
-    ensures { slots.new ≡ slice_set slots.old number entry }
+    ensures list { slots.new ≡ slice_set slots.old number entry }
+    ensures seen { map slot_of slots.new ≡ slice_set (map slot_of slots.old) number (slot_of entry) }
 {
     slots[number] = entry;
 }
 
-/// Replaces the base and the surcharges of the move in a slot, if it has one.
+/// Replaces the base and the surcharges of the move in a slot, if it has one, where it stands.
 pub(crate) fn retime(
     slots: &mut [Option<Move>],
     number: usize,
@@ -53,20 +46,10 @@ pub(crate) fn retime(
     surcharges: Short<Surcharge, MOST_SURCHARGES>,
 )
     requires { number < length slots.old }
-    ensures { Retimed base (map surcharge_of (listed surcharges)) number slots.old slots.new }
+    ensures list { (entry : Option Move) × (slots.new ≡ slice_set slots.old number entry) }
+    ensures seen { map slot_of slots.new ≡ slice_set (map slot_of slots.old) number (retimed_in base (map surcharge_of (listed surcharges)) (slice_index_or (map slot_of slots.old) number None)) }
 {
-    let slot = slots[number];
-    if let Some(mut entry) = slot {
+    if let Some(entry) = &mut slots[number] {
         entry.retime(base, surcharges);
-        slots[number] = Some(entry);
-    }
-}
-
-/// Makes every slot vacant.
-pub(crate) fn vacate(slots: &mut [Option<Move>])
-    ensures { slots.new ≡ replicate (length slots.old) None }
-{
-    for slot in slots.iter_mut() {
-        *slot = None;
     }
 }

@@ -31,6 +31,7 @@ impl Rig {
         self.devices.scene.as_slice()
     }
 
+    /// The settings that are wanted of each device: a bit for each.
     pub fn masks(&self) -> &[u8]
         ensures { result.now ≡ (contents self.now).masks }
     {

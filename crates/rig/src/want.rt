@@ -17,14 +17,11 @@ impl Rig {
         ensures left { contents self.new ≡ wanting (contents self.old) masks.now }
         ensures counted { CountsWanted (contents self.old) masks.now (numbered result) }
     {
-        let settings = self.devices.settings;
-        if masks.len() != settings.as_slice().len() {
+        if masks.len() != self.settings().len() {
             return Err(RigFault::CountsOff);
         }
-        let Some(kept) = Short::of(masks, 0) else {
-            return Err(RigFault::CountsOff);
-        };
-        if some_ill(masks, settings.as_slice()) {
+        let kept = Short::of(masks, 0).ok_or(RigFault::CountsOff)?;
+        if some_ill(masks, self.settings()) {
             return Err(RigFault::MaskIll);
         }
         self.devices.masks = kept;
@@ -35,6 +32,6 @@ impl Rig {
     pub fn is_wanted(&self) -> bool
         ensures { result ≡ wanted (contents self.now).masks (contents self.now).scene }
     {
-        every_admitted(self.devices.masks.as_slice(), self.devices.scene.as_slice())
+        every_admitted(self.masks(), self.scene())
     }
 }

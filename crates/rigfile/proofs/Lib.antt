@@ -1,5 +1,5 @@
--- lemmas about bytes put into a buffer: Written; about one turn of a loop: Turns; about moves of the code: Seen; about
--- whole files: Whole
+-- lemmas about bytes put into a buffer: Written; about the next item of a list: Turns; about moves of the code: Seen;
+-- about whole files: Whole
 pub mod Written
 pub mod Turns
 pub mod Seen

@@ -1,13 +1,8 @@
 -- Bytes put into a buffer one after another. Assumes nothing.
-use Rattle.std.proofs.Common.{◌≡◌, ℕ, ◌+◌, ◌<◌, ◌≤◌, List, [], ◌∷◌, ◌++◌, length, take, drop, set, sym, refl, ap, ◌∙◌, subst, append_assoc, add-zero, zero-add, add-one, arith, length-append, take-append-drop}
-use Rattle.std.proofs.lemmas.List.{take_at, drop_at, drop-drop, length-take-le, set_split}
-use Rattle.rigfile.specs.Writing.{Writes, Partway}
-
-pub nothing : (old : List ℕ) (at : ℕ) → Writes old at [] old
-nothing old at = sym (rw add-zero (take-append-drop at old))
-
-pub single : (old : List ℕ) (at b : ℕ) → at < length old → Writes old at (b ∷ []) (set old at b)
-single old at b h = rw add-one (set_split old at b h)
+use Rattle.std.proofs.Common.{◌≡◌, ℕ, ◌+◌, ◌≤◌, List, [], ◌∷◌, ◌++◌, length, take, drop, sym, refl, ap, ◌∙◌, subst, append_assoc, add-zero, zero-add, arith, length-append, take-append-drop}
+use Rattle.std.proofs.lemmas.List.{take_at, drop_at, drop-drop, length-take-le, length-drop}
+use Rattle.rigfile.specs.declared.writer.Writer.{Writer}
+use Rattle.rigfile.specs.Writing.{Writes, Room, Puts}
 
 onward : (old mid new : List ℕ) (at : ℕ) (xs ys : List ℕ) → at + length xs ≤ length old → Writes old at xs mid → Writes mid (at + length xs) ys new → Writes old at (xs ++ ys) new
 onward old mid new at xs ys h a b =
@@ -26,9 +21,53 @@ onward old mid new at xs ys h a b =
     ∙ append_assoc (take at old) xs (ys ++ drop (at + length (xs ++ ys)) old)
     ∙ ap (λ (u : List ℕ). take at old ++ u) (sym (append_assoc xs ys (drop (at + length (xs ++ ys)) old)))
 
--- more bytes are put where the last ones ended
-pub further : (old mid new : List ℕ) (at next : ℕ) (xs ys : List ℕ) → next ≡ at + length xs → at + length xs ≤ length old → Writes old at xs mid → Writes mid next ys new → Writes old at (xs ++ ys) new
-further old mid new at next xs ys e h a b = onward old mid new at xs ys h a (subst (λ (n : ℕ). Writes mid n ys new) e b)
+as_long : (old new : List ℕ) (at : ℕ) (xs : List ℕ) → at + length xs ≤ length old → Writes old at xs new → length new ≡ length old
+as_long old new at xs h w =
+    let n = at + length xs in
+    let l = ap length w in
+    let a = length-append (take at old) (xs ++ drop n old) in
+    let b = length-append xs (drop n old) in
+    let c = length-take-le at old (omega (arith, h)) in
+    let d = length-drop n old in
+    omega (arith, l, a, b, c, d, h)
+
+pub nothing : (w : Writer) → Puts w [] w
+nothing w = record { same_reference = refl; next = sym (add-zero w.at); done = sym (rw add-zero (take-append-drop w.at w.buffer.now)) }
+
+both : (a b c : Writer) (xs ys : List ℕ) → Room a (xs ++ ys) → Puts a xs b → Puts b ys c → Puts a (xs ++ ys) c
+both a b c xs ys h p q =
+    let l = length-append xs ys in
+    record {
+      same_reference = q.same_reference ∙ p.same_reference;
+      next = omega (arith, l, p.next, q.next);
+      done = onward a.buffer.now b.buffer.now c.buffer.now a.at xs ys (omega (arith, l, h)) p.done (subst (λ (n : ℕ). Writes b.buffer.now n ys c.buffer.now) p.next q.done);
+    }
+
+-- of all that is to be put since a writer stood at old, what is left has room at mid, and once it is put all is
+pub record Ahead (old : Writer) (all left : List ℕ) (mid : Writer) : Type 0 where
+  pub room : Room mid left
+  pub rest : (end : Writer) → Puts mid left end → Puts old all end
+
+pub begin : (old : Writer) (all : List ℕ) → Room old all → Ahead old all all old
+begin old all h = record { room = h; rest = λ end p. p }
+
+-- the next item has room, and is put
+
+pub room : {old mid : Writer} {all left : List ℕ} (item left' : List ℕ) → left ≡ item ++ left' → Ahead old all left mid → Room mid item
+room item left' split ahead = let l = ap length split ∙ length-append item left' in omega (arith, l, ahead.room)
+
+pub turn : {old mid new : Writer} {all left item : List ℕ} (left' : List ℕ) → left ≡ item ++ left' → Ahead old all left mid → Puts mid item new → Ahead old all left' new
+turn {mid = mid} {new = new} {item = item} left' split ahead p =
+    let l = ap length split ∙ length-append item left' in
+    let k = as_long mid.buffer.now new.buffer.now mid.at item (room item left' split ahead) p.done in
+    record {
+      room = omega (arith, l, k, p.next, ahead.room);
+      rest = λ end q. ahead.rest end (subst (λ (u : List ℕ). Puts mid u end) (sym split) (both mid new end item left' (subst (Room mid) split ahead.room) p q));
+    }
+
+-- nothing is left
+pub ended : {old mid : Writer} {all left : List ℕ} → left ≡ [] → Ahead old all left mid → Puts old all mid
+ended {mid = mid} none ahead = ahead.rest mid (subst (λ (u : List ℕ). Puts mid u mid) (sym none) (nothing mid))
 
 -- bytes at the front
 pub front : (old xs new : List ℕ) → Writes old 0 xs new → new ≡ xs ++ drop (length xs) old
@@ -37,33 +76,3 @@ front old xs new w = w ∙ ap (λ (u : List ℕ). u ++ (xs ++ drop (0 + length x
     take_zero : (l : List ℕ) → take 0 l ≡ []
     take_zero [] = refl
     take_zero (x ∷ l) = refl
-
--- a loop begins
-pub begin : (old : List ℕ) (at : ℕ) (left : List ℕ) → at + length left ≤ length old → Partway old at [] left at old
-begin old at left h = (h, omega arith, nothing old at)
-
--- one turn: the next item has room, and is put
-module _ (done item left done' left' : List ℕ) (made : done' ≡ done ++ item) (rest : left ≡ item ++ left') where
-  pub room : (at n : ℕ) → at + length left ≤ n → at + length item ≤ n
-  room at n h = let l = ap length rest ∙ length-append item left' in omega (arith, l, h)
-
-  pub turn : (old mid new : List ℕ) (a at next : ℕ) → next ≡ at + length item → length mid ≡ length old → length new ≡ length mid → Partway old a done left at mid → Writes mid at item new → Partway old a done' left' next new
-  turn old mid new a at next m k n inv v =
-      let l = ap length rest ∙ length-append item left' in
-      let l' = ap length made ∙ length-append done item in
-      let h = inv.0 in
-      let p = inv.1 in
-      let h' : a + length done ≤ length old = omega (arith, l, h, p, k) in (
-        omega (arith, l, h, m, n),
-        omega (arith, l', p, m),
-        subst (λ (u : List ℕ). Writes old a u new) (sym made) (onward old mid new a done item h' inv.2 (subst (λ (n : ℕ). Writes mid n item new) p v)),
-      )
-
--- a loop ends: all is done
-pub record Ended (old : List ℕ) (a : ℕ) (all : List ℕ) (at : ℕ) (new : List ℕ) : Type 0 where
-  pub next : at ≡ a + length all
-  pub whole : Writes old a all new
-
-pub ended : (old : List ℕ) (a : ℕ) (done left all : List ℕ) (at : ℕ) (new : List ℕ) → done ≡ all → Partway old a done left at new → Ended old a all at new
-ended old a done left all at new e inv =
-    record { next = inv.1 ∙ ap (λ (u : List ℕ). a + length u) e; whole = subst (λ (u : List ℕ). Writes old a u new) e inv.2 }

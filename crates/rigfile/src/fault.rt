@@ -1,5 +1,8 @@
 ghost use Rattle.std.specs.Prelude.{◌≡◌};
 
+use std::error::Error;
+use std::fmt;
+
 /// Why a rig could not be written: the buffer is shorter than the file.
 #[derive(Clone, Copy, PartialEq, Eq, Debug)]
 pub struct WriteFault {
@@ -15,3 +18,13 @@ impl WriteFault {
         19
     }
 }
+
+impl fmt::Display for WriteFault {
+    fn fmt<W: fmt::Write>(&self, f: &mut fmt::Formatter<W>) -> fmt::Result {
+        let number = self.number();
+        let needed = self.needed;
+        write!(f, "refused {number}: the file has {needed} bytes")
+    }
+}
+
+impl Error for WriteFault {}

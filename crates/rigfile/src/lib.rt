@@ -4,6 +4,6 @@
 mod devices;
 mod entries;
 pub mod fault;
-mod parts;
 mod sizes;
 pub mod write;
+mod writer;

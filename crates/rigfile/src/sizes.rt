@@ -1,17 +1,18 @@
 //! How many bytes the parts of a file take.
-ghost use Rattle.std.specs.Prelude.{◌≡◌, ◌+◌, ◌*◌, ◌≤◌, map, length};
-ghost use Rattle.std.specs.List.{flat_map, AllByRecursion};
-ghost use Rattle.model.specs.Limits.{most_surcharges, most_slots};
-ghost use Rattle.moves.specs.Views.{slot_of};
-ghost use Rattle.format.specs.Files.{Eight, entries};
-ghost use Rattle.rigfile.specs.Writing.{surcharge_bytes, slot_bytes, slots_bytes, FewTests, BriefSlot};
+ghost use Rattle.std.specs.Prelude.{◌≡◌, ◌+◌, ◌*◌, ◌≤◌, length, count_by, is_some, Some};
+ghost use Rattle.std.specs.List.{sum_by, AllByRecursion};
+ghost use Rattle.model.specs.Limits.{most_devices, most_surcharges, most_slots};
+ghost use Rattle.format.specs.Files.{Eight, file};
+ghost use Rattle.rig.specs.Rigs.{contents};
+ghost use Rattle.rigfile.specs.Writing.{surcharge_bytes, slot_bytes};
 
 use lists::names::Name;
 use moves::entry::{Move, Surcharge};
+use rig::frame::Rig;
 
 /// How many bytes devices with these names take. A name has eight.
-pub(crate) fn devices_size(names: &[Name]) -> usize
-    requires { length names.now ≤ 12 }
+fn devices_size(names: &[Name]) -> usize
+    requires { length names.now ≤ most_devices }
     ensures size { result ≡ 9 * length names.now }
     ensures eight { AllByRecursion Eight names.now }
 {
@@ -19,7 +20,6 @@ pub(crate) fn devices_size(names: &[Name]) -> usize
 }
 
 fn surcharge_size(surcharge: &Surcharge) -> usize
-    requires { FewTests surcharge.now }
     ensures size { result ≡ length (surcharge_bytes surcharge.now) }
     ensures small { result ≤ 9 }
 {
@@ -27,55 +27,47 @@ fn surcharge_size(surcharge: &Surcharge) -> usize
 }
 
 fn surcharges_size(surcharges: &[Surcharge]) -> usize
-    requires { (length surcharges.now ≤ most_surcharges) × (AllByRecursion FewTests surcharges.now) }
-    ensures size { result ≡ length (flat_map surcharge_bytes surcharges.now) }
-    ensures small { result ≤ 72 }
+    requires { length surcharges.now ≤ most_surcharges }
+    ensures { result ≡ sum_by (λ x. length (surcharge_bytes x)) surcharges.now }
 {
-    let mut size = 0;
-    for surcharge in surcharges {
-        size += surcharge_size(surcharge);
-    }
-    size
+    surcharges.iter().map(surcharge_size).sum()
 }
 
 /// How many bytes a slot takes: none where it is vacant.
 fn slot_size(slot: &Option<Move>) -> usize
-    requires { BriefSlot slot.now }
     ensures size { result ≡ length (slot_bytes 0 slot.now) }
     ensures small { result ≤ 126 }
 {
-    let slot = *slot;
-    match slot {
-        None => 0,
-        Some(entry) => {
-            6 + 2 * entry.conditions().len()
-                + 2 * entry.effects().len()
-                + surcharges_size(entry.surcharges())
-        }
-    }
+    slot.as_ref().map_or(0, move_size)
 }
 
-pub(crate) fn slots_size(slots: &[Option<Move>]) -> usize
-    requires { (length slots.now ≤ most_slots) × (AllByRecursion BriefSlot slots.now) }
-    ensures size { result ≡ length (slots_bytes 0 slots.now) }
-    ensures small { result ≤ 126 * most_slots }
+fn move_size(entry: &Move) -> usize
+    ensures size { result ≡ length (slot_bytes 0 (Some entry.now)) }
+    ensures small { result ≤ 126 }
 {
-    let mut size = 0;
-    for slot in slots {
-        size += slot_size(slot);
-    }
-    size
+    6 + 2 * entry.conditions().len()
+        + 2 * entry.effects().len()
+        + surcharges_size(entry.surcharges())
+}
+
+fn slots_size(slots: &[Option<Move>]) -> usize
+    requires { length slots.now ≤ most_slots }
+    ensures { result ≡ sum_by (λ x. length (slot_bytes 0 x)) slots.now }
+{
+    slots.iter().map(slot_size).sum()
+}
+
+/// How many bytes the file of a rig has.
+pub(crate) fn file_size(rig: &Rig) -> usize
+    ensures size { result ≡ length (file (contents rig.now)) }
+    ensures small { result ≤ 32274 }
+{
+    12 + devices_size(rig.names()) + 2 * rig.settings().len() + slots_size(rig.slots())
 }
 
 /// How many slots are in use.
 pub(crate) fn in_use(slots: &[Option<Move>]) -> usize
-    ensures { result ≡ length (entries 0 (map slot_of slots.now)) }
+    ensures { result ≡ count_by is_some slots.now }
 {
-    let mut count = 0;
-    for slot in slots {
-        if slot.is_some() {
-            count += 1;
-        }
-    }
-    count
+    slots.iter().filter(|slot| slot.is_some()).count()
 }

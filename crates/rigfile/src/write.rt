@@ -1,31 +1,41 @@
 //! Write: a rig's file at the front of a buffer.
+ghost use Rattle.std.specs.Prelude.{◌≡◌, length};
 ghost use Rattle.format.specs.Files.{file};
 ghost use Rattle.rig.specs.Rigs.{contents};
-ghost use Rattle.rigfile.specs.Writing.{Written};
+ghost use Rattle.rigfile.specs.Writing.{Room, Puts, Written};
 
-use crate::devices::*;
-use crate::entries::put_slots;
 use crate::fault::WriteFault;
-use crate::parts::put_bytes;
 use crate::sizes::*;
+use crate::writer::Writer;
 use rig::frame::Rig;
+
+impl Writer<'_> {
+    /// Puts the file of a rig, which has so many bytes.
+    fn rig(&mut self, rig: &Rig, total: u16)
+        requires room { Room self.old (file (contents rig.now)) }
+        requires whole { total ≡ length (file (contents rig.now)) }
+        ensures { Puts self.old (file (contents rig.now)) self.new }
+    {
+        let settings = rig.settings();
+        let slots = rig.slots();
+        self.header(settings.len() as u8, in_use(slots) as u8, total);
+        self.devices(settings, rig.names());
+        self.bytes(rig.scene());
+        self.bytes(rig.masks());
+        self.slots(slots);
+    }
+}
 
 /// Puts the rig's file at the front of the buffer, keeps the bytes behind it, and answers how long the file is. A
 /// buffer that is shorter than the file is left as it was.
 pub fn write(rig: &Rig, buffer: &mut [u8]) -> Result<usize, WriteFault>
     ensures { Written (file (contents rig.now)) result buffer.old buffer.new }
 {
-    let settings = rig.settings();
-    let names = rig.names();
-    let slots = rig.slots();
-    let needed = 12 + devices_size(names) + 2 * settings.len() + slots_size(slots);
+    let needed = file_size(rig);
     if buffer.len() < needed {
         return Err(WriteFault { needed });
     }
-    let moves = in_use(slots) as u8;
-    let a = put_header(buffer, settings.len() as u8, moves, needed as u16);
-    let b = put_devices(buffer, a, settings, names);
-    let c = put_bytes(buffer, b, rig.scene());
-    let d = put_bytes(buffer, c, rig.masks());
-    Ok(put_slots(buffer, d, slots))
+    let mut file = Writer { buffer, at: 0 };
+    file.rig(rig, needed as u16);
+    Ok(needed)
 }

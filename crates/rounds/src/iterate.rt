@@ -12,8 +12,7 @@ use crate::rounds::*;
 use rig::frame::Rig;
 use shelf::calls::Shelf;
 use steps::fault::*;
-use steps::hang::hang;
-use steps::hanging::Hanging;
+use steps::round::Round;
 
 /// Whether the last round made no scene cheaper: pegs 0 and 1 carry equal charts.
 fn settled<S: Shelf>(shelf: &S) -> bool
@@ -21,37 +20,41 @@ fn settled<S: Shelf>(shelf: &S) -> bool
     requires second { bare (S.meaning shelf.now).pegs 1 ≡ false }
     ensures value { result ≡ same_chart (on (S.meaning shelf.now).pegs 0) (on (S.meaning shelf.now).pegs 1) }
 {
-    match shelf.same(0, 1) {
-        Ok(same) => same,
-        Err(_) => unreachable(),
-    }
+    shelf.same(0, 1).unwrap()
 }
 
 /// Takes rounds until one makes no scene cheaper, and answers how many did.
-fn repeat_rounds<S: Shelf>(rig: &Rig, shelf: &mut S) -> Result<u64, PlanFault>
+fn repeat_rounds<S: Shelf>(rig: &Rig, round: &mut Round<S>) -> Result<u64, PlanFault>
     requires lawful { Lawful (contents rig.now) }
-    requires shape { (S.meaning shelf.old).shape ≡ (contents rig.now).settings }
-    requires first { slice_index_or (S.meaning shelf.old).pegs 0 None ≡ Some (chart_after (contents rig.now) 0) }
-    ensures made { Made (S.meaning shelf.old) (rounds_after (contents rig.now) 0) result (S.meaning shelf.new) }
+    requires shape { (S.meaning round.old.shelf.now).shape ≡ (contents rig.now).settings }
+    requires first { slice_index_or (S.meaning round.old.shelf.now).pegs 0 None ≡ Some (chart_after (contents rig.now) 0) }
+    ensures made { Made (S.meaning round.old.shelf.now) (rounds_after (contents rig.now) 0) result (S.meaning round.new.shelf.now) }
     ensures counted { Counted (contents rig.now) result }
+    ensures same_shelf { round.new.shelf.ghost_name ≡ round.old.shelf.ghost_name }
 {
     let mut changed = 0;
     loop {
-        one_round(shelf, rig.slots(), changed + 1)?;
-        if settled(shelf) {
+        round.number = changed + 1;
+        one_round(round, rig.slots())?;
+        if settled(round.shelf) {
             return Ok(changed);
         }
+        round.cheaper(0, 1, 1)?;
         changed += 1;
-        hang(
-            shelf,
-            Hanging::Cheaper {
-                target: 0,
-                left: 1,
-                right: 1,
-            },
-            changed,
-        )?;
     }
+}
+
+/// Follows the planning rule from round 0 to the round that makes no scene cheaper.
+fn follow<S: Shelf>(rig: &Rig, round: &mut Round<S>) -> Result<u64, PlanFault>
+    requires lawful { Lawful (contents rig.now) }
+    requires shape { (S.meaning round.old.shelf.now).shape ≡ (contents rig.now).settings }
+    requires zeroth { round.old.number ≡ 0 }
+    ensures made { Made (S.meaning round.old.shelf.now) (rule (contents rig.now)) result (S.meaning round.new.shelf.now) }
+    ensures counted { Counted (contents rig.now) result }
+    ensures same_shelf { round.new.shelf.ghost_name ≡ round.old.shelf.ghost_name }
+{
+    before_rounds(round, rig.masks())?;
+    repeat_rounds(rig, round)
 }
 
 /// Follows the planning rule up to the round that makes no scene cheaper, and answers how many made some cheaper.
@@ -61,6 +64,5 @@ pub fn iterate<S: Shelf>(rig: &Rig, shelf: &mut S) -> Result<u64, PlanFault>
     ensures made { Made (S.meaning shelf.old) (rule (contents rig.now)) result (S.meaning shelf.new) }
     ensures counted { Counted (contents rig.now) result }
 {
-    before_rounds(shelf, rig.masks())?;
-    repeat_rounds(rig, shelf)
+    follow(rig, &mut Round { shelf, number: 0 })
 }

@@ -5,8 +5,9 @@ use Rattle.model.specs.Refusals.{left_by}
 use Rattle.model.specs.Shelves.{Meaning, Call, does, done}
 use Rattle.rule.specs.Steps.{Step, marked}
 use Rattle.steps.specs.declared.halt.Halt.{Halt}
+use Rattle.steps.specs.declared.round.Round.{Round}
 use Rattle.steps.specs.Faults.{Stop, OfHalt}
-use Rattle.steps.specs.Ends.{stopped, ends, leaves, Ended, Hung}
+use Rattle.steps.specs.Ends.{stopped, ends, leaves, Ended, Hung, Took}
 
 -- from m these steps are left to make of all those that were to be made from the start
 pub record Onward (start : Meaning) (all : List Step) (m : Meaning) (rest : List Step) : Type 0 where
@@ -70,41 +71,50 @@ pub marked_append : (r : ℕ) (o : Option ℕ) (xs ys : List Call) → marked r 
 marked_append r o [] ys = refl
 marked_append r o (x ∷ xs) ys = ap (λ zs. record { round = r; move = o; call = x } ∷ zs) (marked_append r o xs ys)
 
--- from m these calls are left to make
-pub record Along (r : ℕ) (start : Meaning) (all : List Call) (m : Meaning) (rest : List Call) : Type 0 where
-  pub onward : (o : Option ℕ) → Onward start (marked r o all) m (marked r o rest)
+module _ (m n : Meaning) (round : ℕ) (xs ys : List Call) where
+  hung_then : (k : Meaning) (r : Result (Unit {0}) Halt) → Hung m round xs (Ok tt) n → Hung n round ys r k → Hung m round (xs ++ ys) r k
+  hung_then k r h j o =
+      subst (λ zs. Ended (OfHalt o) m zs r k) (sym (marked_append round o xs ys))
+      (rest_made (OfHalt o) (marked round o ys) k r (more {X = Unit {0}} (OfHalt o) (marked round o xs) (marked round o ys) n tt (onward_none m (marked round o xs ++ marked round o ys)) (h o)) (j o))
 
-pub along_none : (r : ℕ) (m : Meaning) (cs : List Call) → Along r m cs m cs
-along_none r m cs = record { onward = λ o. onward_none m (marked r o cs) }
+  hung_broken : (e f : Halt) → f ≡ e → Hung m round xs (Err e) n → Hung m round (xs ++ ys) (Err f) n
+  hung_broken e f same h o =
+      subst (λ zs. Ended {X = Unit {0}} (OfHalt o) m zs (Err f) n) (sym (marked_append round o xs ys))
+      (halt (Unit {0}) (OfHalt o) (OfHalt o) (marked round o xs) (marked round o ys) n e f (λ s k. subst (λ g. OfHalt o g s) (sym same) k) (onward_none m (marked round o xs ++ marked round o ys)) (h o))
 
-module _ {r : ℕ} {start : Meaning} {all : List Call} {m : Meaning} where
-  along_append : (xs ys : List Call) → Along r start all m (xs ++ ys) → (o : Option ℕ) → Onward start (marked r o all) m (marked r o xs ++ marked r o ys)
-  along_append xs ys w o = subst (Onward start (marked r o all) m) (marked_append r o xs ys) (w.onward o)
+module _ {S : Type 0} {meaning : S → Meaning} where
+  -- no calls
+  pub took_none : (a : Round S) → Took meaning a [] (Ok tt) a
+  took_none a = record { ended = λ o. (refl, refl); number = refl; shelf = refl }
 
-  pub along_more : (xs ys : List Call) (n : Meaning) → Along r start all m (xs ++ ys) → Hung m r xs (Ok tt) n → Along r start all n ys
-  along_more xs ys n w h = record { onward = λ o. more {X = Unit {0}} (OfHalt o) (marked r o xs) (marked r o ys) n tt (along_append xs ys w o) (h o) }
+  -- calls that are all accepted, and more calls
+  pub took_then : {xs ys : List Call} {a b c : Round S} {r : Result (Unit {0}) Halt} → Took meaning a xs (Ok tt) b → Took meaning b ys r c → Took meaning a (xs ++ ys) r c
+  took_then {xs} {ys} {a} {b} {c} {r} h j =
+      record {
+        ended = hung_then (meaning a.shelf.now) (meaning b.shelf.now) a.number xs ys (meaning c.shelf.now) r h.ended (subst (λ k. Hung (meaning b.shelf.now) k ys r (meaning c.shelf.now)) h.number j.ended);
+        number = j.number ∙ h.number;
+        shelf = j.shelf ∙ h.shelf;
+      }
 
-  pub along_halt : (xs ys : List Call) (n : Meaning) (e : Halt) → Along r start all m (xs ++ ys) → Hung m r xs (Err e) n → Hung start r all (Err e) n
-  along_halt xs ys n e w h o = halt (Unit {0}) (OfHalt o) (OfHalt o) (marked r o xs) (marked r o ys) n e e (λ s k. k) (along_append xs ys w o) (h o)
+  -- calls of which one is refused, and more calls: the exit of a `?`
+  pub took_broken : {xs : List Call} (ys : List Call) {a b : Round S} {e : Halt} (r : Result (Unit {0}) Halt) → IsErrAnd r (λ y. y ≡ e) → Took meaning a xs (Err e) b → Took meaning a (xs ++ ys) r b
+  took_broken ys (Ok x) is h = absurd is
+  took_broken {xs} ys {a} {b} {e} (Err f) is h = record { ended = hung_broken (meaning a.shelf.now) (meaning b.shelf.now) a.number xs ys e f is h.ended; number = h.number; shelf = h.shelf }
 
-  pub along_all : Along r start all m [] → Hung start r all (Ok tt) m
-  along_all w o = all_made (w.onward o)
+-- from now these calls are left to make of all those that were to be made from the start
+pub record Along {S : Type 0} (meaning : S → Meaning) (start : Round S) (all : List Call) (now : Round S) (rest : List Call) : Type 0 where
+  pub onward : {r : Result (Unit {0}) Halt} {after : Round S} → Took meaning now rest r after → Took meaning start all r after
 
-  pub along_rest : (xs : List Call) (n : Meaning) (a : Result (Unit {0}) Halt) → Along r start all m xs → Hung m r xs a n → Hung start r all a n
-  along_rest xs n a w h o = rest_made (OfHalt o) (marked r o xs) n a (w.onward o) (h o)
-
-  -- the same calls by another name
-  pub along_as : (xs ys : List Call) → xs ≡ ys → Along r start all m xs → Along r start all m ys
-  along_as xs ys e w = subst (Along r start all m) e w
-
-  -- the exit of a `?`
-  pub along_broken : (xs ys : List Call) (n : Meaning) (e : Halt) (a : Result (Unit {0}) Halt) → IsErrAnd a (λ y. y ≡ e) → Along r start all m (xs ++ ys) → Hung m r xs (Err e) n → Hung start r all a n
-  along_broken xs ys n e (Ok x) b w h = absurd b
-  along_broken xs ys n e (Err y) b w h = subst (λ f. Hung start r all (Err f) n) (sym b) (along_halt xs ys n e w h)
+module _ {S : Type 0} {meaning : S → Meaning} {start now : Round S} {all : List Call} where
+  -- the next of them were accepted
+  pub along_then : {xs ys : List Call} {next : Round S} → Along meaning start all now (xs ++ ys) → Took meaning now xs (Ok tt) next → Along meaning start all next ys
+  along_then w h = record { onward = λ k. w.onward (took_then h k) }
 
   -- the calls of the next of a list
-  pub along_next : {X : Type 0} (block : List X → List Call) (xs : List X) (i : ℕ) (d : X) → i < length xs → Along r start all m (block (drop i xs)) → Along r start all m (block (get_or xs i d ∷ drop (i + 1) xs))
-  along_next block xs i d h w = subst (λ ys. Along r start all m (block ys)) (drop_more xs i d h) w
+  pub along_item : {X : Type 0} (block : List X → List Call) (xs : List X) (i : ℕ) (d x : X) → x ≡ get_or xs i d → i < length xs → Along meaning start all now (block (drop i xs)) →
+      Along meaning start all now (block (x ∷ drop (i + 1) xs))
+  along_item block xs i d x is h w = subst (λ ys. Along meaning start all now (block ys)) (drop_more xs i d h ∙ ap (λ z. z ∷ drop (i + 1) xs) (sym is)) w
 
-  pub along_last : {X : Type 0} (block : List X → List Call) (xs : List X) (i : ℕ) → length xs ≤ i → Along r start all m (block (drop i xs)) → Along r start all m (block [])
-  along_last block xs i h w = subst (λ ys. Along r start all m (block ys)) (drop_all i xs h) w
+  -- the list is through
+  pub along_end : {X : Type 0} (block : List X → List Call) (xs : List X) (i : ℕ) → block [] ≡ [] → length xs ≤ i → Along meaning start all now (block (drop i xs)) → Took meaning start all (Ok tt) now
+  along_end block xs i none h w = let v = subst (λ ys. Along meaning start all now ys) (ap block (drop_all i xs h) ∙ none) w in v.onward (took_none now)

@@ -5,6 +5,7 @@ use Rattle.model.specs.Shelves.{Meaning, Call, does, done}
 use Rattle.rule.specs.Steps.{Step, marked}
 use Rattle.steps.specs.declared.halt.Halt.{Halt}
 use Rattle.steps.specs.declared.fault.PlanFault.{PlanFault}
+use Rattle.steps.specs.declared.round.Round.{Round}
 use Rattle.steps.specs.Faults.{Stop, OfHalt, OfFault}
 
 -- refused at this step, or as the steps after it end
@@ -30,6 +31,12 @@ Ended Of m xs (Err e) n = (s : Stop) × Of e s × (ends m xs ≡ Err s) × (n �
 -- calls of one round, whichever move they belong to
 abbrev pub Hung : Meaning → ℕ → List Call → Result (Unit {0}) Halt → Meaning → Type 0
 Hung m round cs r n = (o : Option ℕ) → Ended (OfHalt o) m (marked round o cs) r n
+
+-- such calls on the shelf that a round holds, and goes on holding under its number
+pub record Took {S : Type 0} (meaning : S → Meaning) (before : Round S) (cs : List Call) (r : Result (Unit {0}) Halt) (after : Round S) : Type 0 where
+  pub ended : Hung (meaning before.shelf.now) before.number cs r (meaning after.shelf.now)
+  pub number : after.number ≡ before.number
+  pub shelf : after.shelf.ghost_name ≡ before.shelf.ghost_name
 
 abbrev pub Made : {X : Type 0} → Meaning → List Step → Result X PlanFault → Meaning → Type 0
 Made = Ended OfFault

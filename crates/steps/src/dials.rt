@@ -1,9 +1,10 @@
 //! What the planning rule dials.
 ghost use Rattle.std.specs.Prelude.{◌≡◌, ◌<◌, Some};
 ghost use Rattle.model.specs.Limits.{most_settings};
-ghost use Rattle.rule.specs.Steps.{entry, entries, admitted as the_admitted};
+ghost use Rattle.rule.specs.Steps.{entry, entries, admitted as the_admitted, dearer as the_dearer};
 
 use lists::limits::MOST_SETTINGS;
+use std::array;
 
 /// One entry at a setting, another elsewhere.
 pub fn only_at(
@@ -13,11 +14,18 @@ pub fn only_at(
 ) -> [Option<u64>; MOST_SETTINGS]
     ensures { result ≡ entries (entry setting there elsewhere) }
 {
-    let mut all = [elsewhere; MOST_SETTINGS];
-    if (setting as usize) < MOST_SETTINGS {
-        all[setting as usize] = there;
-    }
-    all
+    array::from_fn(|at| if at == usize::from(setting) {
+        there
+    } else {
+        elsewhere
+    })
+}
+
+/// An extra at a setting, 0 elsewhere.
+pub(crate) fn dearer(extra: u16, setting: u8) -> [Option<u64>; MOST_SETTINGS]
+    ensures { result ≡ entries (the_dearer extra setting) }
+{
+    only_at(setting, Some(u64::from(extra)), Some(0))
 }
 
 /// 0 at a setting that a mask admits, never at another.
@@ -25,27 +33,14 @@ fn admitted(mask: u8, setting: u8) -> Option<u64>
     requires { setting < most_settings }
     ensures { result ≡ the_admitted mask setting }
 {
-    if (mask >> setting) % 2 == 1 {
-        Some(0)
-    } else {
-        None
-    }
+    ((mask >> setting) % 2 == 1).then_some(0)
 }
 
 /// 0 at the settings that a mask admits, never elsewhere.
 pub fn admitting(mask: u8) -> [Option<u64>; MOST_SETTINGS]
     ensures { result ≡ entries (the_admitted mask) }
 {
-    [
-        admitted(mask, 0),
-        admitted(mask, 1),
-        admitted(mask, 2),
-        admitted(mask, 3),
-        admitted(mask, 4),
-        admitted(mask, 5),
-        admitted(mask, 6),
-        admitted(mask, 7),
-    ]
+    array::from_fn(|setting| admitted(mask, setting as u8))
 }
 
 /// The same entry at every setting.

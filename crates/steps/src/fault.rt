@@ -7,7 +7,7 @@ use crate::hanging::Hanging;
 use shelf::fault::ShelfFault;
 
 /// Why a plan is sent back.
-#[derive(Clone, Copy)]
+#[derive(Clone, Copy, PartialEq, Eq, Debug)]
 pub enum PlanFault {
     /// The rig and the shelf differ in shape.
     ShapesDiffer,
@@ -26,16 +26,24 @@ pub enum PlanFault {
 }
 
 impl Halt {
+    /// The fault of a plan, while the move was worked on, if one was.
+    fn during(self, number: Option<u8>) -> PlanFault
+        ensures { result ≡ no_room self.fault self.call self.round number }
+    {
+        let Halt { fault, call, round } = self;
+        PlanFault::NoRoom {
+            fault,
+            call,
+            round,
+            number,
+        }
+    }
+
     /// The fault of a plan, while a move was worked on.
     pub fn in_move(self, number: u8) -> PlanFault
         ensures { result ≡ no_room self.fault self.call self.round (Some number) }
     {
-        PlanFault::NoRoom {
-            fault: self.fault,
-            call: self.call,
-            round: self.round,
-            number: Some(number),
-        }
+        self.during(Some(number))
     }
 }
 
@@ -44,12 +52,7 @@ impl From<Halt> for PlanFault {
     ghost from_gives = { λ x y. y ≡ no_room x.fault x.call x.round None };
 
     fn from(halt: Halt) -> PlanFault {
-        PlanFault::NoRoom {
-            fault: halt.fault,
-            call: halt.call,
-            round: halt.round,
-            number: None,
-        }
+        halt.during(None)
     }
 }
 
@@ -58,6 +61,7 @@ impl PlanFault {
     pub fn number(&self) -> u8
         ensures value { result ≡ the_number self.now }
     {
+        // By a match, for the variants hold values, and such an enum is not cast to its discriminant.
         match self {
             PlanFault::ShapesDiffer => 17,
             PlanFault::NoRoom { fault, .. } => fault.number(),

@@ -1,7 +1,7 @@
 use lists::limits::MOST_SETTINGS;
 
 /// A call that hangs a chart on a shelf, with all that it is given.
-#[derive(Clone, Copy)]
+#[derive(Clone, Copy, PartialEq, Eq, Debug)]
 pub enum Hanging {
     /// The chart that gives a scene the entry of the device's setting.
     Dial {

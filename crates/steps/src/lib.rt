@@ -7,3 +7,4 @@ pub mod fault;
 pub mod halt;
 pub mod hang;
 pub mod hanging;
+pub mod round;

@@ -1,27 +1,27 @@
 -- Steps round a ring, and what a search has passed.
-use Rattle.std.proofs.Common.{◌≡◌, ℕ, ◌+◌, ◌<◌, true, ◌⊎◌, List, length, set, is_some, Some, None, Option, sym, ap, ◌∙◌, subst, subst₂, inl, inr, arith}
+use Rattle.std.proofs.Common.{◌≡◌, ℕ, ◌+◌, ◌<◌, ◌≤◌, true, ◌⊎◌, List, length, set, is_some, Some, None, Option, sym, refl, ap, ◌∙◌, subst, subst₂, inl, inr, arith}
+use Rattle.std.specs.Option.{unwrap_or}
 use Rattle.std.proofs.lemmas.Bool.Decides.{nat_tests}
-use Rattle.std.proofs.lemmas.Bool.{both_ways, cases_order, cases_eq}
+use Rattle.std.proofs.lemmas.Bool.{both_ways, cases_lt, cases_order, cases_eq}
 use Rattle.std.proofs.lemmas.List.{get_or-set_same, get_or-set_other, length-set}
 use Rattle.table.specs.Tables.{steps, slot, Probed, Absent, Apart, Table, Kept, Empty}
-use Rattle.table.specs.Finds.{Open}
+use Rattle.table.specs.Finds.{Others, FindsIn, Finds, Open}
+use Rattle.table.specs.declared.found.Found.{Found}
+use Rattle.table.specs.declared.found.Found.TheVariants.{At, Free, Full}
 
 -- every slot nearer than t steps to e's initial holds an entry, and not one alike to e
 abbrev pub Passed : {E : Type 0} → (E → E → Type 0) → (E → ℕ → ℕ) → List (Option E) → E → ℕ → Type 0
 Passed {E} alike initial slots e t = (m : ℕ) → m < length slots → steps (length slots) (initial e (length slots)) m < t → (is_some (slot slots m) ≡ true) × ((x : E) → slot slots m ≡ Some x → alike x e → ⊥)
 
 -- the ring
-pub steps_bound : (n h k : ℕ) → h < n → k < n → steps n h k < n
-steps_bound n h k p q = grind (arith, nat_tests)
+steps_from : (n h i m : ℕ) → h ≤ i → i < n → m < n → steps n h m < steps n h i → h ≤ m
+steps_from n h i m p q r near = grind (arith, nat_tests)
 
-pub steps_start : (n h : ℕ) → steps n h h ≡ 0
-steps_start n h = grind (arith, nat_tests)
+steps_to : (n h i m : ℕ) → h ≤ i → i < n → m < n → steps n h m < steps n h i → m < i
+steps_to n h i m p q r near = grind (arith, nat_tests)
 
-pub steps_next : (n h k : ℕ) → h < n → k + 1 < n → steps n h k + 1 < n → steps n h (k + 1) ≡ steps n h k + 1
-steps_next n h k p q r = grind (arith, nat_tests)
-
-pub steps_wrap : (n h k : ℕ) → h < n → k + 1 ≡ n → steps n h k + 1 < n → steps n h 0 ≡ steps n h k + 1
-steps_wrap n h k p q r = grind (arith, nat_tests)
+steps_round : (n h i m : ℕ) → i < h → h < n → m < n → steps n h m < steps n h i → (h ≤ m) ⊎ (m < i)
+steps_round n h i m p q r near = elim (cases_lt m i) [ inl l ↦ inr l | inr l ↦ inl (grind (arith, nat_tests)) ]
 
 pub steps_same : (n h k m : ℕ) → h < n → k < n → m < n → steps n h k ≡ steps n h m → k ≡ m
 steps_same n h k m p q r e = grind (arith, nat_tests)
@@ -29,16 +29,25 @@ steps_same n h k m p q r e = grind (arith, nat_tests)
 empty_or_not : {E : Type 0} (o : Option E) (x : E) → o ≡ None → o ≡ Some x → ⊥
 empty_or_not o x p q = both_ways (is_some o) (ap is_some p) (ap is_some q)
 
-module _ {E : Type 0} (alike : E → E → Type 0) (initial : E → ℕ → ℕ) (slots : List (Option E)) (e : E) where
-  -- one slot more is passed
-  pub passed_more : (i t : ℕ) (x : E) → i < length slots → initial e (length slots) < length slots → steps (length slots) (initial e (length slots)) i ≡ t → slot slots i ≡ Some x → (alike x e → ⊥) → Passed alike initial slots e t → Passed alike initial slots e (t + 1)
-  passed_more i t x il hl at here unlike passed m ml near = elim (cases_eq m i) [ inl q ↦ here_too q | inr q ↦ passed m ml (before q) ]
-    where
-      before : (m ≡ i → ⊥) → steps (length slots) (initial e (length slots)) m < t
-      before q = elim (cases_order (steps (length slots) (initial e (length slots)) m) t) [ inl s ↦ absurd (q (steps_same (length slots) (initial e (length slots)) m i hl ml il (s ∙ sym at))) | inr (inl s) ↦ s | inr (inr s) ↦ omega arith ]
+module _ {E : Type 0} (alike : E → E → Type 0) (slots : List (Option E)) (e : E) (from : ℕ) where
+  -- a search that has not begun has passed no slot
+  pub others_none : Others alike slots e from from
+  others_none m p q = absurd (omega arith)
 
-      here_too : m ≡ i → (is_some (slot slots m) ≡ true) × ((y : E) → slot slots m ≡ Some y → alike y e → ⊥)
-      here_too q = let o : slot slots m ≡ Some x = ap (slot slots) q ∙ here in (ap is_some o, λ y p l. let z : x ≡ y = cc in unlike (subst (λ v. alike v e) (sym z) l))
+  -- one slot more is passed
+  pub others_more : (i : ℕ) (x : E) → slot slots i ≡ Some x → (alike x e → ⊥) → Others alike slots e from i → Others alike slots e from (i + 1)
+  others_more i x here unlike others m p q = elim (cases_eq m i) [
+    | inl s ↦ let o : slot slots m ≡ Some x = ap (slot slots) s ∙ here in (ap is_some o, λ y h l. let z : x ≡ y = cc in unlike (subst (λ v. alike v e) (sym z) l))
+    | inr s ↦ others m p (omega arith)
+  ]
+
+module _ {E : Type 0} (alike : E → E → Type 0) (initial : E → ℕ → ℕ) (slots : List (Option E)) (e : E) where
+  -- all that is passed before a slot, whether the search came to it before or after the end of the slots
+  pub passed_by : (i : ℕ) → i < length slots → initial e (length slots) ≤ i → Others alike slots e (initial e (length slots)) i → Passed alike initial slots e (steps (length slots) (initial e (length slots)) i)
+  passed_by i il hi others m ml near = others m (steps_from (length slots) (initial e (length slots)) i m hi il ml near) (steps_to (length slots) (initial e (length slots)) i m hi il ml near)
+
+  pub passed_round : (i : ℕ) → i < initial e (length slots) → initial e (length slots) < length slots → Others alike slots e (initial e (length slots)) (length slots) → Others alike slots e 0 i → Passed alike initial slots e (steps (length slots) (initial e (length slots)) i)
+  passed_round i il hl late early m ml near = elim (steps_round (length slots) (initial e (length slots)) i m il hl ml near) [ inl q ↦ late m q ml | inr q ↦ early m (omega arith) q ]
 
   -- an empty slot, all nearer ones passed: no entry has the key
   pub free_absent : (i t : ℕ) → ((x : E) → alike x e → initial x (length slots) ≡ initial e (length slots)) → Probed initial slots → i < length slots → initial e (length slots) < length slots → steps (length slots) (initial e (length slots)) i ≡ t → slot slots i ≡ None → Passed alike initial slots e t → Absent alike slots e
@@ -51,6 +60,30 @@ module _ {E : Type 0} (alike : E → E → Type 0) (initial : E → ℕ → ℕ)
       later s =
           let near : steps (length slots) (initial x (length slots)) i < steps (length slots) (initial x (length slots)) k = rw (together x like) (omega (arith, at)) in
           both_ways (is_some (slot slots i)) (ap is_some none) (probed k x kl here i il near)
+
+-- what the two parts of a search answer, from the slot at which it starts and from slot 0
+module _ {E : Type 0} (alike : E → E → Type 0) (initial : E → ℕ → ℕ) (slots : List (Option E)) (e : E) (together : (x : E) → alike x e → initial x (length slots) ≡ initial e (length slots)) (probed : Probed initial slots) (hl : initial e (length slots) < length slots) where
+  open_by : (i : ℕ) → i < length slots → slot slots i ≡ None → Passed alike initial slots e (steps (length slots) (initial e (length slots)) i) → Open alike initial slots e i
+  open_by i il none passed = record {
+    within = il;
+    empty = none;
+    reached = λ k l s. (passed k l s).0;
+    absent = free_absent alike initial slots e i (steps (length slots) (initial e (length slots)) i) together probed il hl refl none passed;
+  }
+
+  pub found_from : (r : Found) → FindsIn alike slots e (initial e (length slots)) (length slots) (Some r) → Finds alike initial slots e r
+  found_from (At i) f = f
+  found_from (Free i) f = open_by i f.within f.empty (passed_by alike initial slots e i f.within f.after f.others)
+  found_from Full f = absurd f
+
+  pub found_round : Others alike slots e (initial e (length slots)) (length slots) → (r : Option Found) → FindsIn alike slots e 0 (initial e (length slots)) r → Finds alike initial slots e (unwrap_or r Full)
+  found_round late None f = record { all = λ k l. (both k l).0; absent = λ k x l. (both k l).1 x }
+    where
+      both : (k : ℕ) → k < length slots → (is_some (slot slots k) ≡ true) × ((x : E) → slot slots k ≡ Some x → alike x e → ⊥)
+      both k l = elim (cases_lt k (initial e (length slots))) [ inl q ↦ f k (omega arith) q | inr q ↦ late k q l ]
+  found_round late (Some (At i)) f = f
+  found_round late (Some (Free i)) f = open_by i (omega (arith, f.within)) f.empty (passed_round alike initial slots e i f.within hl late f.others)
+  found_round late (Some Full) f = absurd f
 
 module _ {E : Type 0} (alike : E → E → Type 0) (initial : E → ℕ → ℕ) (slots : List (Option E)) (e : E) (i : ℕ) (open_at : Open alike initial slots e i) where
   -- what a slot holds after e is put into slot i

@@ -1,5 +1,5 @@
 -- What a search among open-addressed slots answers, and what interning leaves. Assumes nothing.
-use Rattle.std.specs.Prelude.{◌≡◌, ℕ, ◌<◌, ◌⊎◌, List, length, Some, None, Option, ◌≢◌}
+use Rattle.std.specs.Prelude.{◌≡◌, ℕ, ◌<◌, ◌≤◌, ◌⊎◌, true, List, length, is_some, Some, None, Option, ◌≢◌}
 use Rattle.table.specs.Tables.{slot, Reached, Absent, Occupied}
 use Rattle.table.specs.declared.found.Found.{Found}
 use Rattle.table.specs.declared.found.Found.TheVariants.{At, Free, Full}
@@ -27,6 +27,24 @@ abbrev pub Finds : {E : Type 0} → (E → E → Type 0) → (E → ℕ → ℕ)
 Finds alike initial slots e (At i) = Holds alike slots e i
 Finds alike initial slots e (Free i) = Open alike initial slots e i
 Finds alike initial slots e Full = Crowded alike slots e
+
+-- the slots from one on, up to another, hold entries with other keys
+abbrev pub Others : {E : Type 0} → (E → E → Type 0) → List (Option E) → E → ℕ → ℕ → Type 0
+Others {E} alike slots e from to = (m : ℕ) → from ≤ m → m < to → (is_some (slot slots m) ≡ true) × ((x : E) → slot slots m ≡ Some x → alike x e → ⊥)
+
+-- slot i is the first free one, before which no slot holds an entry with the key
+pub record Ends {E : Type 0} (alike : E → E → Type 0) (slots : List (Option E)) (e : E) (from to i : ℕ) : Type 0 where
+  pub after : from ≤ i
+  pub within : i < to
+  pub empty : slot slots i ≡ None
+  pub others : Others alike slots e from i
+
+-- what a search in these slots alone answers
+abbrev pub FindsIn : {E : Type 0} → (E → E → Type 0) → List (Option E) → E → ℕ → ℕ → Option Found → Type 0
+FindsIn alike slots e from to None = Others alike slots e from to
+FindsIn alike slots e from to (Some (At i)) = Holds alike slots e i
+FindsIn alike slots e from to (Some (Free i)) = Ends alike slots e from to i
+FindsIn alike slots e from to (Some Full) = ⊥
 
 -- slot i was free and holds e now, every other slot as it was
 pub record Placed {E : Type 0} (old new : List (Option E)) (e : E) (i : ℕ) : Type 0 where

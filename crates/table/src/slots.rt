@@ -1,32 +1,48 @@
-ghost use Rattle.std.specs.Prelude.{◌≡◌, Some, slice_set};
-ghost use Rattle.table.specs.Tables.{Table, Kept, Empty};
-ghost use Rattle.table.specs.Finds.{Finds, Open, Interned};
+ghost use Rattle.std.specs.Prelude.{◌≡◌, ◌≤◌, length, Some, slice_set};
+ghost use Rattle.table.specs.Tables.{slot, Table, Kept, Empty};
+ghost use Rattle.table.specs.Finds.{FindsIn, Finds, Open, Interned};
 
 use crate::entry::Entry;
 use crate::found::Found;
+
+/// What a slot holds; one that is not there holds nothing.
+pub fn taken<E: Copy>(slots: &[Option<E>], i: usize) -> Option<E>
+    ensures { result ≡ slot slots.now i }
+{
+    slots.get(i).copied().flatten()
+}
+
+/// Looks for the entry with the key of `e`, slot by slot up to a free one; none where others take all these slots.
+fn find_in<E: Entry>(slots: &[Option<E>], e: &E, from: usize, to: usize) -> Option<Found>
+    requires within { to ≤ length slots.now }
+    ensures { FindsIn E.alike slots.now e.now from to result }
+{
+    for i in from..to {
+        match &slots[i] {
+            None => return Some(Found::Free(i)),
+            Some(x) => {
+                if x.same_key(e) {
+                    return Some(Found::At(i));
+                }
+            }
+        }
+    }
+    None
+}
 
 /// Looks for the entry with the key of `e`, slot by slot from its start, round the slice.
 pub fn find<E: Entry>(slots: &[Option<E>], e: &E) -> Found
     requires { Table E.alike E.initial slots.now }
     ensures { Finds E.alike E.initial slots.now e.now result }
 {
-    let n = slots.len();
-    if n == 0 {
+    if slots.is_empty() {
         return Found::Full;
     }
-    let mut i = e.start(n);
-    for t in 0..n {
-        match &slots[i] {
-            None => return Found::Free(i),
-            Some(x) => {
-                if x.same_key(e) {
-                    return Found::At(i);
-                }
-            }
-        }
-        i = if i + 1 == n { 0 } else { i + 1 };
+    let start = e.start(slots.len());
+    if let Some(found) = find_in(slots, e, start, slots.len()) {
+        return found;
     }
-    Found::Full
+    find_in(slots, e, 0, start).unwrap_or(Found::Full)
 }
 
 /// Puts an entry into the free slot that a search for it found.
@@ -44,9 +60,7 @@ pub fn clear<E: Entry>(slots: &mut [Option<E>])
     ensures empty { Empty slots.new }
     ensures table { Table E.alike E.initial slots.new }
 {
-    for s in slots.iter_mut() {
-        *s = None;
-    }
+    slots.fill(None);
 }
 
 /// The slot of the entry with the key of `e`, which is placed where there is none; none where no slot is free.

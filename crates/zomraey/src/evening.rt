@@ -68,14 +68,14 @@ fn add(number: usize, draft: Draft) -> Cue<FlatShelf> {
 fn plan(heap: Global) -> anyhow::Result<Cue<FlatShelf>> {
     let cells = vec![in heap; None; PEGS * SCENES]?;
     let sheet = vec![in heap; 0u8; 16]?;
-    match FlatShelf::open(&SETTINGS, cells) {
-        Ok(shelf) => Ok(Cue::Plan {
-            shelf,
-            sheet,
-            reply: None,
-        }),
-        Err(_) => Err(anyhow!("the shelf of the evening does not open")),
-    }
+    let shelf = FlatShelf::open(&SETTINGS, cells).map_err(|_| {
+        anyhow!("the shelf of the evening does not open")
+    })?;
+    Ok(Cue::Plan {
+        shelf,
+        sheet,
+        reply: None,
+    })
 }
 
 /// The calls of the evening: four moves, any scene with a dark sky is wanted, and a plan.

@@ -3,9 +3,11 @@
 
 mod evening;
 
-use anyhow::anyhow;
+use anyhow::Context;
 use flat::store::FlatShelf;
 use planner::answer::Plan;
+use report::step::Step;
+use report::verdict::Verdict;
 use rig::frame::Rig;
 use show::cue::Cue;
 use show::play::show;
@@ -15,7 +17,11 @@ use steps::fault::PlanFault;
 fn perform(rt: &HostRuntime, rig: &mut Rig, moves: &[u8]) -> anyhow::Result<()> {
     for number in moves {
         let time = rig.perform(usize::from(*number))?;
-        println!(rt; "{number} {time}")?;
+        let step = Step {
+            number: *number,
+            time: u64::from(time),
+        };
+        println!(rt; "{step}")?;
     }
     Ok(())
 }
@@ -25,55 +31,38 @@ fn report(
     rt: &HostRuntime,
     rig: &mut Rig,
     sheet: &[u8],
-    reply: &Result<Plan, PlanFault>,
+    reply: Result<Plan, PlanFault>,
 ) -> anyhow::Result<()> {
-    match reply {
-        Ok(
-            Plan::Way {
-                moves,
-                time,
-                rounds,
-            },
-        ) => {
-            println!(rt; "way {moves} moves {time} tenths {rounds} rounds")?;
-            match sheet.get(0..*moves) {
-                Some(moves) => perform(rt, rig, moves),
-                None => Err(anyhow!("the sheet is shorter than the plan")),
-            }
-        }
-        Ok(Plan::NoWay { rounds }) => {
-            println!(rt; "no way {rounds} rounds")?;
-            Ok(())
-        }
-        Err(fault) => {
-            let number = fault.number();
-            println!(rt; "refused {number}")?;
-            Ok(())
-        }
+    let verdict = Verdict::from(reply);
+    println!(rt; "{verdict}")?;
+    if let Verdict::Way { moves, .. } = verdict {
+        let moves = sheet
+            .get(0..moves)
+            .context("the sheet is shorter than the plan")?;
+        perform(rt, rig, moves)?;
     }
+    Ok(())
 }
 
 fn run(rt: &HostRuntime) -> anyhow::Result<()> {
     let slots = vec![in rt.alloc(); None; evening::SLOTS]?;
     let mut cues: Vec<Cue<FlatShelf>> = evening::cues(rt.alloc())?;
-    let mut rig = match show(
+    let mut rig = show(
         &evening::SETTINGS,
         &evening::NAMES,
         &evening::SCENE,
         slots,
         cues.as_mut_slice(),
-    ) {
-        Ok(rig) => rig,
-        Err(refused) => return Err(refused.fault.into()),
-    };
+    )
+    .map_err(|refused| refused.fault)?;
     for cue in cues.as_slice() {
         if let Cue::Plan {
-            shelf: _,
             sheet,
             reply: Some(reply),
+            ..
         } = cue
         {
-            report(rt, &mut rig, sheet.as_slice(), reply)?;
+            report(rt, &mut rig, sheet.as_slice(), *reply)?;
         }
     }
     Ok(())

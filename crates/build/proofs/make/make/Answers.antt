@@ -14,35 +14,35 @@ highest-most-requires c = record {
   timely = made_timely c.args.nodes.now c.args.settings.now c.args.level c.args.kids c.requires.ready c.requires.depth c.requires.kids c.requires.timely c.least-low.result c.lower_all-edges.result c.least-low.ensures c.lower_all-edges.ensures;
 }
 
-pub returns-in-Some : goal.returns-in-Some
-returns-in-Some c =
+pub returns : goal.returns
+returns c =
     let old = c.args.nodes.now in
     let new = c.intern.new.slots in
     let shape = c.args.settings.now in
     let l = c.args.level in
     let kids = c.args.kids in
     let w = wanted_is old new shape l kids c.requires.ready c.requires.depth c.requires.kids c.least-low.result c.lower_all-edges.result c.highest-most.result c.least-low.ensures c.lower_all-edges.ensures c.highest-most.ensures in
-    let got = c.in-Some.ensures in
+    let got = c.in_ok-i.ensures in
     let held = got.interned.0 in
-    let here : slot new c.in-Some.i ≡ Some (wanted old (drop (l + 1) shape) l kids) = held.here ∙ ap {B = Option Node} Some (held.like ∙ w) in
-    let how : (new ≡ old) ⊎ Placed old new (wanted old (drop (l + 1) shape) l kids) c.in-Some.i = subst (λ x. (new ≡ old) ⊎ Placed old new x c.in-Some.i) w got.interned.1 in
+    let here : slot new c.in_ok-i.i ≡ Some (wanted old (drop (l + 1) shape) l kids) = held.here ∙ ap {B = Option Node} Some (held.like ∙ w) in
+    let how : (new ≡ old) ⊎ Placed old new (wanted old (drop (l + 1) shape) l kids) c.in_ok-i.i = subst (λ x. (new ≡ old) ⊎ Placed old new x c.in_ok-i.i) w got.interned.1 in
     record {
-      grows = made_grows old new shape l kids c.requires.ready c.requires.depth c.requires.kids got.table got.kept (search rules) c.in-Some.i how;
-      built = made_answers old new shape l kids c.requires.ready c.requires.depth c.requires.kids got.kept c.in-Some.i here _ (let h = sym c.least-low.ensures in λ i. record { weight = h i; child = c.in-Some.i });
+      grows = made_grows old new shape l kids c.requires.ready c.requires.depth c.requires.kids got.table got.kept (search rules) c.in_ok-i.i how;
+      built = made_answers old new shape l kids c.requires.ready c.requires.depth c.requires.kids got.kept c.in_ok-i.i here _ (let h = sym c.least-low.ensures in λ i. record { weight = h i; child = c.in_ok-i.i });
     }
 
-pub returns-in-None : goal.returns-in-None
-returns-in-None c =
+pub returns-in_err-i : goal.returns-in_err-i
+returns-in_err-i c =
     let old = c.args.nodes.now in
     let new = c.intern.new.slots in
     let shape = c.args.settings.now in
     let l = c.args.level in
     let kids = c.args.kids in
     let w = wanted_is old new shape l kids c.requires.ready c.requires.depth c.requires.kids c.least-low.result c.lower_all-edges.result c.highest-most.result c.least-low.ensures c.lower_all-edges.ensures c.highest-most.ensures in
-    let got = c.in-None.ensures in
+    let got = c.in_err-i.ensures in
     let still = got.interned.0 in
     let full = make_full old shape l kids c.requires.ready c.requires.depth c.requires.kids (subst (Crowded (λ (x y : Node). x ≡ y) old) w got.interned.1) in
     record {
       grows = subst (λ (n : List (Option Node)). Grows old n shape l (together old shape l kids)) (sym still) (grows_none old shape l (together old shape l kids) c.requires.ready);
-      built = subst (λ (n : List (Option Node)). Stuck n shape l (together old shape l kids)) (sym still) full;
+      built = rw c.from_residual.ensures (subst (λ (n : List (Option Node)). Stuck n shape l (together old shape l kids)) (sym still) full);
     }

@@ -21,7 +21,7 @@ loop-e-preserved c =
     let i = c.loop-e.e-index in
     let e = get_or xs i none_edge in
     let rest = highest nodes ns (drop (i + 1) xs) in
-    ap (λ v. greater v rest) (c.greater-best.ensures ∙ ap (greater c.loop-e.best) c.reach.ensures)
+    ap (λ v. greater v rest) (c.greater-best.ensures.value ∙ ap (greater c.loop-e.best) c.reach.ensures)
     ∙ greater_assoc c.loop-e.best (plus e.weight (below nodes ns e)) rest
     ∙ sym (at_drop_more (λ ys. greater c.loop-e.best (highest nodes ns ys)) xs i none_edge c.loop-e-test.true)
     ∙ c.loop-e.invariant

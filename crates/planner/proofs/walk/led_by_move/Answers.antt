@@ -3,7 +3,7 @@ use Rattle.lists.specs.Shorts.{listed}
 use Rattle.model.specs.Moves.{applied, time}
 use Rattle.rig.specs.Rigs.{contents}
 use Rattle.moves.specs.Views.{pairs_of, move_of}
-use Rattle.planner.proofs.Striding.{said_of, next_within_shelf, leads, first_peg_is}
+use Rattle.planner.proofs.Striding.{said_of, next_within_shelf, led_if, first_peg_is}
 use Rattle.planner.proofs.walk.led_by_move.Goals as goal
 
 pub time_from-requires : goal.time_from-requires
@@ -16,8 +16,8 @@ time_from-requires g c =
     let there = c.as_slice-3.ensures.value ∙ c.apply.ensures ∙ ap (λ es. applied es (listed p.scene)) c.effects.ensures in
     record { hung = c.requires.ready.hung; within = next_within_shelf rig m c.requires.ready p c.requires.stands a c.requires.lawful met c.as_slice-3.result.now there }
 
-pub returns-then-after-left : goal.returns-then-after-left
-returns-then-after-left g c =
+pub returns : goal.returns
+returns g c =
     let rig = contents c.args.rig.now in
     let m = g.S.Shelf.meaning c.args.shelf.now in
     let p = c.args.point.now in
@@ -27,9 +27,10 @@ returns-then-after-left g c =
     let next = applied a.effects s in
     let led : listed c.apply.new.scene ≡ next = c.apply.ensures ∙ ap (λ es. applied es s) c.effects.ensures in
     let spent : c.from-time.result ≡ time a s = c.from-time.ensures ∙ c.time.ensures ∙ ap (time a) c.as_slice-2.ensures.value in
-    let le : time a s ≤ p.left = omega (arith, spent, c.if-time-point.false) in
-    let after = first_peg_is rig m c.requires.ready c.as_slice-3.result.now next (Some c.in-Some.after) (c.as_slice-3.ensures.value ∙ led) c.in-Some.ensures.value in
+    let said = c.in_ok-left.ensures in
+    let le : time a s ≤ p.left = omega (arith, spent, said) in
+    let left : c.in_ok-left.left ≡ p.left - time a s = omega (arith, spent, said) in
+    let after = first_peg_is rig m c.requires.ready c.as_slice-3.result.now next (Some c.in_ok-after.after) (c.as_slice-3.ensures.value ∙ led) c.in_ok-after.ensures.value in
     record {
-      led = leads rig m c.requires.ready p c.requires.stands a c.requires.lawful met (record { scene = c.apply.new.scene; left = p.left - c.from-time.result }) led le
-          (ap (λ t. p.left - t) spent) (after ∙ ap Some c.if-after-left.true);
+      led = rw c.then_some.ensures (led_if rig m c.requires.ready p c.requires.stands a c.requires.lawful met (record { scene = c.apply.new.scene; left = c.in_ok-left.left }) c.in_ok-after.after led le left after);
     }

@@ -12,36 +12,36 @@ loop-number-init g c = λ j l. absurd (omega arith)
 pub led-requires : goal.led-requires
 led-requires g c =
     let rig = contents c.args.rig.now in
-    let xs = c.slots-slots.result.now in
+    let xs = c.slots-slot-items.result.now in
     record {
       ready = c.requires.ready;
       stands = c.requires.stands;
-      lawful = lawful_seen rig xs c.slots-slots.ensures c.requires.ready.lawful c.loop-number.number c.index-slots-number.result (seen_length slot_of xs rig.slots c.slots-slots.ensures) c.loop-number-test.true c.index-slots-number.is;
+      lawful = lawful_seen rig xs c.slots-slot-items.ensures c.requires.ready.lawful c.loop-number.number c.slot-item.result (seen_length slot_of xs rig.slots c.slots-slot-items.ensures) c.loop-number-test.true c.slot-item.is;
     }
 
 pub overflow_cast-result : goal.overflow_cast-result
 overflow_cast-result g c =
     let rig = contents c.args.rig.now in
-    omega (arith, c.loop-number-test.true, seen_length slot_of c.slots-slots.result.now rig.slots c.slots-slots.ensures, few_slots rig c.requires.ready.lawful)
+    omega (arith, c.loop-number-test.true, seen_length slot_of c.slots-slot-items.result.now rig.slots c.slots-slot-items.ensures, few_slots rig c.requires.ready.lawful)
 
 pub returns-in-Some : goal.returns-in-Some
 returns-in-Some g c =
     let rig = contents c.args.rig.now in
-    let x = c.index-slots-number.result in
+    let x = c.slot-item.result in
     record {
       strides = strides rig (g.S.Shelf.meaning c.args.shelf.now) c.args.point.now c.loop-number.number (action_in (slot_of x)) c.in-Some.end
-          (numbered_seen rig c.slots-slots.result.now c.slots-slots.ensures c.loop-number.number x c.loop-number-test.true c.index-slots-number.is) c.loop-number.invariant c.in-Some.ensures.led;
+          (numbered_seen rig c.slots-slot-items.result.now c.slots-slot-items.ensures c.loop-number.number x c.loop-number-test.true c.slot-item.is) c.loop-number.invariant c.in-Some.ensures.led;
     }
 
 pub loop-number-preserved : goal.loop-number-preserved
 loop-number-preserved g c =
     let rig = contents c.args.rig.now in
-    let x = c.index-slots-number.result in
+    let x = c.slot-item.result in
     none_more rig (g.S.Shelf.meaning c.args.shelf.now) c.args.point.now c.loop-number.number (action_in (slot_of x))
-    (numbered_seen rig c.slots-slots.result.now c.slots-slots.ensures c.loop-number.number x c.loop-number-test.true c.index-slots-number.is) c.loop-number.invariant c.in_default.ensures.led
+    (numbered_seen rig c.slots-slot-items.result.now c.slots-slot-items.ensures c.loop-number.number x c.loop-number-test.true c.slot-item.is) c.loop-number.invariant c.in_default.ensures.led
 
 pub unreachable-requires : goal.unreachable-requires
 unreachable-requires g c =
     let rig = contents c.args.rig.now in
     some_move rig (g.S.Shelf.meaning c.args.shelf.now) c.args.point.now c.requires.ready c.requires.stands c.requires.far c.loop-number.number
-    (omega (arith, c.loop-number-test.false, seen_length slot_of c.slots-slots.result.now rig.slots c.slots-slots.ensures)) c.loop-number.invariant
+    (omega (arith, c.loop-number-test.false, seen_length slot_of c.slots-slot-items.result.now rig.slots c.slots-slot-items.ensures)) c.loop-number.invariant

@@ -1,15 +1,13 @@
-use Rattle.std.proofs.Common.{sym, arith}
+use Rattle.std.proofs.Common.{◌∙◌, rules, tests}
+use Rattle.std.proofs.lemmas.Iterator.{YieldsList-from_slice, YieldsList-from_zip}
+use Rattle.std.proofs.lemmas.Iterator.Search.{any_from_yields_List}
 use Rattle.model.specs.Masks.{ill}
-use Rattle.model.proofs.Testing.{some_two_here, some_two_on, some_two_end}
+use Rattle.rig.proofs.Pairs.{any_is_some_two}
 use Rattle.rig.proofs.masks.some_ill.Goals as goal
 
-pub returns-then-is_ill : goal.returns-then-is_ill
-returns-then-is_ill c =
-    sym (some_two_here ill c.args.masks.now c.args.settings.now c.loop-i.i c.loop-i.invariant 0 0 (omega arith) (omega arith) (sym c.if-is_ill.ensures))
-
-pub loop-i-preserved : goal.loop-i-preserved
-loop-i-preserved c =
-    some_two_on ill c.args.masks.now c.args.settings.now c.loop-i.i c.loop-i.invariant 0 0 (omega arith) (omega arith) (sym c.if-is_ill.ensures)
-
 pub returns : goal.returns
-returns c = sym (some_two_end ill c.args.masks.now c.args.settings.now c.loop-i.i c.loop-i.invariant c.loop-i-test.false)
+returns c =
+    let ms = c.args.masks.now in
+    let ns = c.args.settings.now in
+    any_from_yields_List (λ p. ill p.0 p.1) c.any.new.self _ _ c.any.ensures.ran (YieldsList-from_zip (YieldsList-from_slice ms cc) (YieldsList-from_slice ns cc)) (λ x b q k. search (rules, tests))
+    ∙ any_is_some_two ill ms ns

@@ -1,20 +1,20 @@
-use Rattle.std.proofs.Common.{ℕ, ◌<◌, ◌≤◌, List, ◌++◌, map, length, get_or, take, drop, set, sym, refl, ap, ◌∙◌, subst}
+use Rattle.std.proofs.Common.{◌≡◌, ℕ, ◌+◌, ◌<◌, ◌≤◌, List, [], ◌∷◌, ◌++◌, map, length, get_or, take, drop, set, sym, ap, ◌∙◌, subst, append_assoc, arith}
+use Rattle.std.proofs.lemmas.List.{drop_more, take_more, set_at, length-take-le, length-map, map-append, take_all, append-nil, at_drop_all}
 use Rattle.lists.specs.Shorts.{listed}
-use Rattle.model.specs.Limits.{most_settings}
 use Rattle.model.specs.Masks.{all_of}
-use Rattle.rig.proofs.OpeningSeen.{few_settings, mask_more, masks_all}
 use Rattle.rig.proofs.open.all_masks.Goals as goal
 
-pub mask_of_all-requires : goal.mask_of_all-requires
-mask_of_all-requires c =
-    let ns = listed c.args.settings.now in
-    let i = c.loop-device.device in
-    let value = c.as_slice-count-items.ensures.value in
-    let lt : i < length ns = subst (λ (l : List ℕ). i < length l) value c.loop-device-test.true in
-    subst (λ (l : List ℕ). get_or l i 0 ≤ most_settings) (sym value) (few_settings ns i c.requires lt)
+-- one more mask over the front of the settings
+mask_more : (f : ℕ → ℕ) (ns : List ℕ) (i : ℕ) → i < length ns → set (map f (take i ns) ++ drop i ns) i (f (get_or ns i 0)) ≡ map f (take (i + 1) ns) ++ drop (i + 1) ns
+mask_more f ns i lt =
+    ap (λ (t : List ℕ). set (map f (take i ns) ++ t) i (f (get_or ns i 0))) (drop_more ns i 0 lt)
+    ∙ set_at (map f (take i ns)) (get_or ns i 0) (drop (i + 1) ns) (f (get_or ns i 0)) i (length-map (take i ns) f ∙ length-take-le i ns (omega arith))
+    ∙ sym (append_assoc (map f (take i ns)) (f (get_or ns i 0) ∷ []) (drop (i + 1) ns))
+    ∙ ap (λ (t : List ℕ). t ++ drop (i + 1) ns) (sym (map-append f (take i ns) (get_or ns i 0 ∷ [])) ∙ ap (map f) (sym (take_more ns i 0 lt)))
 
-pub loop-device-init : goal.loop-device-init
-loop-device-init c = refl
+masks_all : (f : ℕ → ℕ) (ns : List ℕ) (i : ℕ) → length ns ≤ i → map f (take i ns) ++ drop i ns ≡ map f ns
+masks_all f ns i le =
+    ap (λ (t : List ℕ). map f (take i ns) ++ t) (at_drop_all (λ (t : List ℕ). t) ns i le) ∙ append-nil (map f (take i ns)) ∙ ap (map f) (take_all i ns le)
 
 pub loop-device-preserved : goal.loop-device-preserved
 loop-device-preserved c =

@@ -1,15 +1,12 @@
-use Rattle.std.proofs.Common.{leb, sym, arith}
-use Rattle.std.proofs.lemmas.Bool.{le-leb, lt-leb}
-use Rattle.model.proofs.Testing.{some_two_here, some_two_on, some_two_end}
+use Rattle.std.proofs.Common.{leb, ◌∙◌, rules, tests}
+use Rattle.std.proofs.lemmas.Iterator.{YieldsList-from_slice, YieldsList-from_zip}
+use Rattle.std.proofs.lemmas.Iterator.Search.{any_from_yields_List}
+use Rattle.rig.proofs.Pairs.{any_is_some_two}
 use Rattle.rig.proofs.opening.some_high.Goals as goal
 
-pub returns-then-settings-i : goal.returns-then-settings-i
-returns-then-settings-i c =
-    sym (some_two_here leb c.args.settings.now c.args.scene.now c.loop-i.i c.loop-i.invariant 0 0 (omega arith) (omega arith) (le-leb _ _ c.if-settings-i.true))
-
-pub loop-i-preserved : goal.loop-i-preserved
-loop-i-preserved c =
-    some_two_on leb c.args.settings.now c.args.scene.now c.loop-i.i c.loop-i.invariant 0 0 (omega arith) (omega arith) (lt-leb _ _ c.if-settings-i.false)
-
 pub returns : goal.returns
-returns c = sym (some_two_end leb c.args.settings.now c.args.scene.now c.loop-i.i c.loop-i.invariant c.loop-i-test.false)
+returns c =
+    let ns = c.args.settings.now in
+    let s = c.args.scene.now in
+    any_from_yields_List (λ p. leb p.0 p.1) c.any.new.self _ _ c.any.ensures.ran (YieldsList-from_zip (YieldsList-from_slice ns cc) (YieldsList-from_slice s cc)) (λ x b q k. search (rules, tests))
+    ∙ any_is_some_two leb ns s

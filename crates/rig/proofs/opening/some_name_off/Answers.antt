@@ -1,16 +1,14 @@
-use Rattle.std.proofs.Common.{sym}
+use Rattle.std.proofs.Common.{◌||◌, refl, ◌∙◌, rules, tests}
+use Rattle.std.specs.List.{list_any}
+use Rattle.std.proofs.lemmas.Iterator.{YieldsList-from_slice}
+use Rattle.std.proofs.lemmas.Iterator.Search.{any_from_yields_List}
+use Rattle.std.proofs.lemmas.List.Recursion.{same_from_clauses}
 use Rattle.model.specs.Limits.{outside, least_byte, most_byte}
 use Rattle.model.specs.Lists.{some}
-use Rattle.model.proofs.Testing.{some_here, some_on, some_end}
 use Rattle.rig.proofs.opening.some_name_off.Goals as goal
 
-pub returns-then-some_outside : goal.returns-then-some_outside
-returns-then-some_outside c =
-    sym (some_here (some (outside least_byte most_byte)) c.args.names.now c.loop-name.name-index c.loop-name.invariant _ c.loop-name-test.true (sym c.if-some_outside.ensures))
-
-pub loop-name-preserved : goal.loop-name-preserved
-loop-name-preserved c =
-    some_on (some (outside least_byte most_byte)) c.args.names.now c.loop-name.name-index c.loop-name.invariant _ c.loop-name-test.true (sym c.if-some_outside.ensures)
-
 pub returns : goal.returns
-returns c = sym (some_end (some (outside least_byte most_byte)) c.args.names.now c.loop-name.name-index c.loop-name.invariant c.loop-name-test.false)
+returns c =
+    let off = some (outside least_byte most_byte) in
+    any_from_yields_List off _ _ _ c.any.ensures.ran (YieldsList-from_slice c.args.names.now cc) (λ x b q k. search (rules, tests))
+    ∙ same_from_clauses (list_any off) (some off) (λ x b. off x || b) refl (λ _ _. refl) (λ _ _. refl) c.args.names.now

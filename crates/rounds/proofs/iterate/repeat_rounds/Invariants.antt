@@ -1,11 +1,15 @@
-use Rattle.std.proofs.Common.{◌-◌}
+use Rattle.std.proofs.Common.{◌≡◌, ◌-◌}
 use Rattle.rule.specs.Rule.{count}
 use Rattle.rig.specs.Rigs.{contents}
 use Rattle.rounds.proofs.Going.{Going}
 use Rattle.rounds.proofs.iterate.repeat_rounds.Given as goal
 
-abbrev pub invariant-loop-shelf : goal.invariant-loop-shelf
-invariant-loop-shelf g l = Going (contents l.rig) (g.S.Shelf.meaning l.initial.shelf) (g.S.Shelf.meaning l.shelf) l.changed
+abbrev pub invariant-loop-round : goal.invariant-loop-round
+invariant-loop-round g l =
+    record {
+      going : Going (contents l.rig) (g.S.Shelf.meaning l.initial.round.shelf.now) (g.S.Shelf.meaning l.round.shelf.now) l.changed;
+      same_shelf : l.round.shelf.ghost_name ≡ l.initial.round.shelf.ghost_name;
+    }
 
-abbrev pub decreases-loop-shelf : goal.decreases-loop-shelf
-decreases-loop-shelf g l = count (contents l.rig) - l.changed
+abbrev pub decreases-loop-round : goal.decreases-loop-round
+decreases-loop-round g l = count (contents l.rig) - l.changed

@@ -1,30 +1,20 @@
-use Rattle.std.proofs.Common.{◌+◌, [], ◌∷◌, drop}
-use Rattle.model.specs.Shelves.{dial, sum}
+use Rattle.std.proofs.Common.{◌+◌, get_or, refl}
 use Rattle.rule.specs.Steps.{masked}
-use Rattle.steps.proofs.Steps.{along_none, along_more, along_broken, along_all, along_last}
-use Rattle.rounds.proofs.OfRounds.{next_mask}
+use Rattle.steps.proofs.Steps.{took_broken, along_item, along_then, along_end}
 use Rattle.rounds.proofs.rounds.masked.Goals as goal
-
-pub loop-device-init : goal.loop-device-init
-loop-device-init g c = along_none 0 (g.S.Shelf.meaning c.args.shelf.now) (masked 1 (drop 1 c.args.masks.now))
 
 pub returns-in_err-add_dial : goal.returns-in_err-add_dial
 returns-in_err-add_dial g c =
     let xs = c.args.masks.now in
-    let i = c.loop-device.device in
-    let es = c.admitting-entries.result in
-    record {
-      ended = along_broken (dial 3 i es ∷ sum 0 0 3 ∷ []) (masked (i + 1) (drop (i + 1) xs)) (g.S.Shelf.meaning c.add_dial.new.shelf) c.in_err-add_dial.field-0.0 c.from_residual.result c.from_residual.ensures.1
-          (next_mask xs i es c.loop-device-test.true c.admitting-entries.ensures c.loop-device.invariant) c.in_err-add_dial.ensures.ended;
-    }
+    let i = c.loop-before.before in
+    let w = along_item (masked (i + 1)) xs i 0 (get_or xs i 0) refl c.loop-before-test.true c.loop-before.invariant in
+    record { took = w.onward (took_broken _ _ c.from_residual.ensures.1 (rw c.admitting.ensures at c.in_err-add_dial.ensures.took)) }
 
-pub loop-device-preserved : goal.loop-device-preserved
-loop-device-preserved g c =
+pub loop-before-preserved : goal.loop-before-preserved
+loop-before-preserved g c =
     let xs = c.args.masks.now in
-    let i = c.loop-device.device in
-    let es = c.admitting-entries.result in
-    along_more (dial 3 i es ∷ sum 0 0 3 ∷ []) (masked (i + 1) (drop (i + 1) xs)) (g.S.Shelf.meaning c.add_dial.new.shelf)
-    (next_mask xs i es c.loop-device-test.true c.admitting-entries.ensures c.loop-device.invariant) c.in_ok-add_dial.ensures.ended
+    let i = c.loop-before.before in
+    along_then (along_item (masked (i + 1)) xs i 0 (get_or xs i 0) refl c.loop-before-test.true c.loop-before.invariant) (rw c.admitting.ensures at c.in_ok-add_dial.ensures.took)
 
 pub returns : goal.returns
-returns g c = record { ended = along_all (along_last (masked c.loop-device.device) c.args.masks.now c.loop-device.device c.loop-device-test.false c.loop-device.invariant) }
+returns g c = record { took = along_end (masked (c.loop-before.before + 1)) c.args.masks.now c.loop-before.before refl c.loop-before-test.false c.loop-before.invariant }

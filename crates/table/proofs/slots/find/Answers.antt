@@ -1,34 +1,23 @@
-use Rattle.std.proofs.Common.{length, None, sym, refl, ◌∙◌, arith}
-use Rattle.std.proofs.lemmas.List.{get_or_read}
-use Rattle.std.proofs.lemmas.Bool.Decides.{not_from_Decides}
-use Rattle.table.proofs.Rings.{free_absent, passed_more, steps_next, steps_wrap}
+use Rattle.std.proofs.Common.{ℕ, length, Some, subst}
+use Rattle.table.specs.Finds.{Others, FindsIn}
+use Rattle.table.proofs.Rings.{found_from, found_round}
 use Rattle.table.proofs.slots.find.Goals as goal
-use Rattle.table.proofs.slots.find.Goals.{then-i-n, else-i-n}
 
-pub returns-in-None : goal.returns-in-None
-returns-in-None g c =
+pub returns-in-Some : goal.returns-in-Some
+returns-in-Some g c =
     let m = g.E.Entry in
-    let inv = c.loop-t.invariant in
-    let at = inv.2 c.loop-t-test.true in
-    let none = sym (get_or_read c.args.slots.now c.loop-t.i c.index-slots-i.result inv.0 c.index-slots-i.is None) ∙ c.in-None.is in
-    record {
-      within = inv.0;
-      empty = none;
-      reached = λ k l s. (inv.4 k l (omega (arith, at))).0;
-      absent = free_absent m.alike m.initial c.args.slots.now c.args.e.now c.loop-t.i c.loop-t.t (λ x l. g.met.E.Entry.together x c.args.e.now _ l) c.requires.probed inv.0 inv.3 at none inv.4;
-    }
+    let e = c.args.e.now in
+    let start = c.start-start.ensures in
+    let within = rw start.value at start.within in
+    let found = subst (λ (h : ℕ). FindsIn m.alike c.args.slots.now e h (length c.args.slots.now) (Some c.in-Some.found)) start.value c.in-Some.ensures in
+    found_from m.alike m.initial c.args.slots.now e (λ x l. g.met.E.Entry.together x e _ l) c.requires.probed within c.in-Some.found found
 
-pub loop-t-preserved : goal.loop-t-preserved
-loop-t-preserved g c =
+pub returns : goal.returns
+returns g c =
     let m = g.E.Entry in
-    let inv = c.loop-t.invariant in
-    let at = inv.2 c.loop-t-test.true in
-    let here = sym (get_or_read c.args.slots.now c.loop-t.i c.index-slots-i.result inv.0 c.index-slots-i.is None) ∙ c.in-Some.is in
-    let passed = passed_more m.alike m.initial c.args.slots.now c.args.e.now c.loop-t.i c.loop-t.t c.in-Some.x inv.0 inv.3 at here (not_from_Decides c.same_key.result c.same_key.ensures c.if-same_key.false) inv.4 in
-    let n = length c.args.slots.now in
-    let h = m.initial c.args.e.now n in
-    let i = c.loop-t.i in
-    elim c.if-i-n.branch [
-      | then-i-n w ↦ (omega (arith, w.i-is), refl, λ l. rw w.i-is (omega (arith, steps_wrap n h i inv.3 w.if-i-n.true (omega (arith, at)), at)), inv.3, passed)
-      | else-i-n w ↦ (omega (arith, w.i-is, w.if-i-n.false), refl, λ l. rw w.i-is (omega (arith, steps_next n h i inv.3 (omega (arith, w.if-i-n.false)) (omega (arith, at)), at)), inv.3, passed)
-    ]
+    let e = c.args.e.now in
+    let start = c.start-start.ensures in
+    let within = rw start.value at start.within in
+    let late = subst (λ (h : ℕ). Others m.alike c.args.slots.now e h (length c.args.slots.now)) start.value c.in_default.ensures in
+    let found = subst (λ (h : ℕ). FindsIn m.alike c.args.slots.now e 0 h c.find_in-2.result) start.value c.find_in-2.ensures in
+    rw c.unwrap_or.ensures (found_round m.alike m.initial c.args.slots.now e (λ x l. g.met.E.Entry.together x e _ l) c.requires.probed within late c.find_in-2.result found)

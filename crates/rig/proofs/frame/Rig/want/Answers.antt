@@ -4,7 +4,7 @@ use Rattle.theory.proofs.Counting.{counted}
 use Rattle.rig.specs.Rigs.{contents}
 use Rattle.rig.proofs.frame.Rig.want.Goals as goal
 
-pub returns : goal.returns
-returns c =
+pub returns-clause-counted : goal.returns-clause-counted
+returns-clause-counted c =
     let answer : ◌≡◌ {A = Result ℕ ℕ} (Ok c.product.result) (wants (contents c.args.self.now) c.args.masks.now) = search rules in
-    record { answer = answer; left = search rules; counted = counted (contents c.args.self.now) c.args.masks.now (Ok c.product.result) answer }
+    counted (contents c.args.self.now) c.args.masks.now (Ok c.product.result) answer

@@ -1,0 +1,27 @@
+-- A table with one slot rewritten, through the slice that it lent. Assumes nothing.
+use Rattle.std.proofs.Common.{◌≡◌, ℕ, ◌<◌, List, map, length, get_or, set, Some, None, vec_items, vec_len, Option, Vec, sym, ap, ◌∙◌}
+use Rattle.std.proofs.Math.ListN.{get_or-map}
+use Rattle.std.specs.Vec.{with_items}
+use Rattle.std.specs.declared.alloc.Global.{Global}
+use Rattle.std.proofs.lemmas.List.{with_items_is, get_or_read, map-set}
+use Rattle.model.specs.Moves as model
+use Rattle.model.specs.Contents.{with_slot, with_slots}
+use Rattle.model.specs.Calls.{retiming}
+use Rattle.rig.specs.declared.devices.Devices.{Devices}
+use Rattle.moves.specs.declared.entry.Move.{Move}
+use Rattle.moves.specs.Views.{move_of, slot_of}
+use Rattle.rig.specs.Holding.{holding}
+use Rattle.rig.specs.Slots.{retimed_in}
+
+-- the slice ws stands where the slice lent stood
+pub written : (d : Devices) (v : Vec (Option Move) Global) (lent ws : List (Option Move)) (n : ℕ) (o : Option model.Move) → lent ≡ vec_items v → length ws ≡ vec_len v → map slot_of ws ≡ set (map slot_of lent) n o → holding d (with_items v ws) ≡ with_slot (holding d v) n o
+written d v lent ws n o value len put =
+    ap (with_slots (holding d v)) (ap (map slot_of) (with_items_is v ws len) ∙ put ∙ ap (λ (l : List (Option Move)). set (map slot_of l) n o) value)
+
+-- the move m that was read in the slot, retimed
+pub retimed : (xs : List (Option Move)) (n : ℕ) → n < length xs → (read : Option Move) → read ≡ get_or xs n read → (m : Move) → read ≡ Some m → (new : Move) (base : ℕ) (ys : List model.Surcharge) → move_of new ≡ retiming base ys (move_of m)
+    → map slot_of (set xs n (Some new)) ≡ set (map slot_of xs) n (retimed_in base ys (get_or (map slot_of xs) n None))
+retimed xs n lt read is m some new base ys e =
+    let there : get_or xs n None ≡ Some m = sym (get_or_read xs n read lt is None) ∙ some in
+    let seen : get_or (map slot_of xs) n None ≡ Some (move_of m) = get_or-map slot_of xs n None ∙ ap slot_of there in
+    map-set slot_of xs n (Some new) ∙ ap (set (map slot_of xs) n) (ap Some e ∙ sym (ap (retimed_in base ys) seen))

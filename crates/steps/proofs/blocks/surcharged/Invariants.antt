@@ -1,9 +1,0 @@
-use Rattle.std.proofs.Common.{map, drop}
-use Rattle.rule.specs.Steps.{surcharged}
-use Rattle.moves.specs.Views.{surcharge_of}
-use Rattle.steps.proofs.Steps.{Along}
-use Rattle.steps.proofs.blocks.surcharged.Given as goal
-
-abbrev pub invariant-loop-surcharge : goal.invariant-loop-surcharge
-invariant-loop-surcharge g l =
-    Along l.round (g.S.Shelf.meaning l.initial.shelf) (surcharged (map surcharge_of l.surcharges)) (g.S.Shelf.meaning l.shelf) (surcharged (map surcharge_of (drop l.surcharge-index l.surcharges)))
