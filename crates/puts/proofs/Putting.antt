@@ -1,6 +1,5 @@
 -- The steps of putting a pair, over plain values. Assumes nothing.
-use Rattle.std.proofs.Common.{◌≡◌, ℕ, suc, ◌+◌, ◌-◌, ◌*◌, ◌<◌, ◌≤◌, false, List, [], ◌∷◌, length, get_or, take, drop, set, Some, None, Option, sym, refl, zero-add, ap, ◌∙◌, subst, arith, length-drop}
-use lib.ListN.{length-map}
+use Rattle.std.proofs.Common.{◌≡◌, ℕ, suc, ◌+◌, ◌-◌, ◌*◌, ◌<◌, ◌≤◌, false, List, [], length, get_or, take, drop, set, Some, None, Option, sym, refl, zero-add, ap, ◌∙◌, subst, arith, length-drop}
 use Rattle.std.specs.List.{range_with_len, flat_map}
 use Rattle.std.proofs.lemmas.List.{drop_more, get_or-take, get_or-drop}
 use Rattle.std.proofs.lemmas.List.FromFn.{get_or-range_with_len}
@@ -28,7 +27,7 @@ use Rattle.build.specs.Grew.{nodes_in, shape_in, Grew, Begun}
 use Rattle.build.proofs.Steps.{stuck_wider}
 use Rattle.build.proofs.Grown.{grew_alike, grew_next, stuck_next, begun_next, begun_kids, begun_timely, grew_made, built_made}
 use Rattle.build.proofs.Spreads.{piece_at, made_long}
-use Rattle.build.proofs.Sides.{piece_timely, earlier_timely, moved_fine, from_zero, raise_timely, raise_stands, side_formed, side_chart, side_fine, side_piece, side_kid_timely, side_timely}
+use Rattle.build.proofs.Sides.{raised_chart, piece_timely, earlier_timely, moved_fine, from_zero, raise_timely, raise_stands, side_formed, side_chart, side_fine, side_piece, side_kid_timely, side_timely}
 use Rattle.memo.specs.Results.{Right}
 use Rattle.puts.specs.Puts.{goal}
 
@@ -40,17 +39,13 @@ rest_of e = record { weight = Some 0; child = e.child }
 abbrev pub key_of : ℕ → ℕ → ℕ → Edge → Key
 key_of l v d e = record { operation = Put v d; level = l; left = rest_of e; right = rest_of e }
 
-never_chart : (nodes : List (Option Node)) (ns : Shape) (e : Edge) → e.weight ≡ None → (t : Chart) × (chart nodes ns e ≡ later None t)
-never_chart nodes [] e none = (None ∷ [], ap (λ w. w ∷ []) none)
-never_chart nodes (n ∷ ns) e none = (flat_map (chart nodes ns) (take n (node_at nodes e.child).edges), ap (λ w. later w (flat_map (chart nodes ns) (take n (node_at nodes e.child).edges))) none)
-
 -- an edge without times stays as it is
 pub put_skipped : (nodes : List (Option Node)) (shape : Shape) → Store nodes shape → (l v d : ℕ) (e : Edge) → e.weight ≡ None → Fine nodes (drop l shape) l e → Stands nodes shape l (goal nodes shape l v d e) e
 put_skipped nodes shape store l v d e none f =
     let ns = drop l shape in
-    let t = never_chart nodes ns e none in
-    let long : length t.0 ≡ size ns = sym (length-map t.0 (plus None)) ∙ sym (ap length t.1) ∙ (knows nodes shape store ns l e refl f).long in
-    (f, t.1 ∙ sym (put_never ns (v - l) d t.0 long) ∙ ap (put_chart ns (v - l) d) (sym t.1))
+    let c = chart nodes ns e in
+    let is : c ≡ later None c = ap (chart nodes ns) (λ i. record { weight = none i; child = e.child }) ∙ sym (raised_chart nodes ns None e) in
+    (f, is ∙ sym (put_never ns (v - l) d c (knows nodes shape store ns l e refl f).long) ∙ ap (put_chart ns (v - l) d) (sym is))
 
 raised_zero : (e : Edge) → raised (Some 0) e ≡ e
 raised_zero e = go e.weight refl

@@ -45,6 +45,7 @@ pub fn put(diagrams: &mut Diagrams, level: usize, device: u8, setting: u8, e: Ed
     };
     let key = Key {
         operation: Operation::Put(device, setting),
+        // below the device, which is a u8
         level: level as u8,
         left: rest,
         right: rest,
