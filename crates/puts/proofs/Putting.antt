@@ -67,6 +67,12 @@ pub record Side (old : NodeStore) (l v d : ℕ) (e : Edge) (w : ℕ) (x : Node) 
   pub weight : e.weight ≡ Some w
   pub here : x ≡ node_at (nodes_in old) e.child
 
+-- what is known above the device while the first i of the n kids are built
+pub record Way (old mid : NodeStore) (l v d : ℕ) (e : Edge) (n i : ℕ) (kids : List Edge) : Type 0 where
+  pub below : l < v
+  pub begun : Begun old mid l (goal (nodes_in old) (shape_in old) l v d (rest_of e)) i kids
+  pub count : n ≡ get_or (shape_in old) l 0
+
 module _ {old : NodeStore} {l v d : ℕ} {e : Edge} {w : ℕ} {x : Node} (s : Side old l v d e w x) where
   abbrev nodes : List (Option Node)
   nodes = nodes_in old
@@ -127,10 +133,10 @@ module _ {old : NodeStore} {l v d : ℕ} {e : Edge} {w : ℕ} {x : Node} (s : Si
   inner_timely = goal_timely (drop l shape) (v - l) d (chart nodes (drop l shape) (rest_of e)) rest_timely
 
   pub known_timely : (new : List (Option Node)) → Store new shape → (k : Edge) → Stands new shape l inner k → late (plus (Some w) k.weight) ≡ false
-  known_timely new store k st = raise_timely new shape store l k inner (whole) w st whole_is (goal_timely (drop l shape) (v - l) d (chart nodes (drop l shape) e) s.timely)
+  known_timely new store k st = raise_timely new shape store l k inner whole w st whole_is (goal_timely (drop l shape) (v - l) d (chart nodes (drop l shape) e) s.timely)
 
-  pub known_stands : (new : List (Option Node)) → Store new shape → (k r : Edge) → Stands new shape l inner k → r ≡ raised (Some w) k → Stands new shape l (whole) r
-  known_stands new store k r st same = raise_stands new shape store l k inner (whole) w st whole_is r same
+  pub known_stands : (new : List (Option Node)) → Store new shape → (k r : Edge) → Stands new shape l inner k → r ≡ raised (Some w) k → Stands new shape l whole r
+  known_stands new store k r st same = raise_stands new shape store l k inner whole w st whole_is r same
 
   known_right : (new : List (Option Node)) → Kept nodes new → (k : Edge) → Stands new shape l inner k → Right new shape (key_of l v d e) k
   known_right new kept k st =
@@ -142,17 +148,25 @@ module _ {old : NodeStore} {l v d : ℕ} {e : Edge} {w : ℕ} {x : Node} (s : Si
         stands = (st.0, st.1 ∙ ap (put_chart ns (v - l) d) (sym p));
       }
 
+  -- the piece for a setting
+  kid_chart : (k : ℕ) → k < get_or shape l 0 → chart nodes (drop (l + 1) shape) (get_or x.edges k none_edge) ≡ piece shape l (chart nodes (drop l shape) (rest_of e)) k
+  kid_chart k kl =
+      ap (chart nodes (drop (l + 1) shape)) (sym (raised_zero (get_or x.edges k none_edge)))
+      ∙ sym (side_piece nodes shape store l lt (rest_of e) 0 x rest_fine refl s.here k kl)
+      ∙ ap (λ c. piece shape l c k) (sym (side_chart nodes shape store l lt (rest_of e) 0 x rest_fine refl s.here))
+
+  kid_fine : (k : ℕ) → k < get_or shape l 0 → Fine nodes (drop (l + 1) shape) (l + 1) (get_or x.edges k none_edge)
+  kid_fine k kl = subst (Fine nodes (drop (l + 1) shape) (l + 1)) (raised_zero (get_or x.edges k none_edge)) (side_fine nodes shape store l lt (rest_of e) 0 x rest_fine refl s.here k kl)
+
+  inner_parts : parts (drop l shape) l inner ≡ parts (drop l shape) l whole
+  inner_parts = sym (parts_later (drop l shape) l w inner) ∙ ap (parts (drop l shape) l) (sym whole_is)
+
+  -- where its parts have no room, those of the chart have none
+  stuck_whole : (new : List (Option Node)) → Stuck new shape l inner → Stuck new shape l whole
+  stuck_whole new t = stuck_wider new shape l l whole inner (λ p h. subst (In p) inner_parts h) t
+
+  -- piece by piece
   module _ (below : l < v) where
-    -- the piece for a setting
-    kid_chart : (k : ℕ) → k < get_or shape l 0 → chart nodes (drop (l + 1) shape) (get_or x.edges k none_edge) ≡ piece shape l (chart nodes (drop l shape) (rest_of e)) k
-    kid_chart k kl =
-        ap (chart nodes (drop (l + 1) shape)) (sym (raised_zero (get_or x.edges k none_edge)))
-        ∙ sym (side_piece nodes shape store l lt (rest_of e) 0 x rest_fine refl s.here k kl)
-        ∙ ap (λ c. piece shape l c k) (sym (side_chart nodes shape store l lt (rest_of e) 0 x rest_fine refl s.here))
-
-    kid_fine : (k : ℕ) → k < get_or shape l 0 → Fine nodes (drop (l + 1) shape) (l + 1) (get_or x.edges k none_edge)
-    kid_fine k kl = subst (Fine nodes (drop (l + 1) shape) (l + 1)) (raised_zero (get_or x.edges k none_edge)) (side_fine nodes shape store l lt (rest_of e) 0 x rest_fine refl s.here k kl)
-
     abbrev fanned : ℕ → Chart
     fanned k = put_chart (drop (l + 1) shape) (v - (l + 1)) d (piece shape l (chart nodes (drop l shape) (rest_of e)) k)
 
@@ -175,89 +189,82 @@ module _ {old : NodeStore} {l v d : ℕ} {e : Edge} {w : ℕ} {x : Node} (s : Si
     inner_piece : (k : ℕ) → k < get_or shape l 0 → fanned k ≡ piece shape l inner k
     inner_piece k kl = sym (ap (λ c. piece shape l c k) inner_is ∙ piece_at shape l k fanned fanned_long kl ∙ ap fanned (get_or-range_with_len 0 (get_or shape l 0) k 0 kl ∙ zero-add k))
 
-    inner_parts : parts (drop l shape) l inner ≡ parts (drop l shape) l (whole)
-    inner_parts = sym (parts_later (drop l shape) l w inner) ∙ ap (parts (drop l shape) l) (sym whole_is)
+  -- the kids one by one, the first i of n
+  module _ {mid : NodeStore} {n i : ℕ} {kids : List Edge} (p : Way old mid l v d e n i kids) where
+    -- the node has an edge for each of them
+    edges_counted : length (take n x.edges) ≡ get_or shape l 0
+    edges_counted = ap (λ m. length (take m x.edges)) p.count ∙ (side_formed nodes shape store l lt e w x s.fine s.weight s.here).wide
 
-    -- where its parts have no room, those of the chart have none
-    stuck_whole : (new : List (Option Node)) → Stuck new shape l inner → Stuck new shape l whole
-    stuck_whole new t = stuck_wider new shape l l whole inner (λ p h. subst (In p) inner_parts h) t
+    module _ (il : i < length (take n x.edges)) where
+      abbrev kid : Edge
+      kid = get_or (take n x.edges) i none_edge
 
-    -- the kids one by one, the first i of n
-    module _ {mid : NodeStore} {i : ℕ} {kids : List Edge} (b : Begun old mid l inner i kids) (n : ℕ) (count : n ≡ get_or shape l 0) where
-      -- the node has an edge for each of them
-      edges_counted : length (take n x.edges) ≡ get_or shape l 0
-      edges_counted = ap (λ m. length (take m x.edges)) count ∙ (side_formed nodes shape store l lt e w x s.fine s.weight s.here).wide
+      within : i < get_or shape l 0
+      within = omega (arith, il, edges_counted)
 
-      module _ (il : i < length (take n x.edges)) where
-        abbrev kid : Edge
-        kid = get_or (take n x.edges) i none_edge
+      kid_is : kid ≡ get_or x.edges i none_edge
+      kid_is = get_or-take n x.edges i none_edge (omega (arith, within, p.count))
 
-        within : i < get_or shape l 0
-        within = omega (arith, il, edges_counted)
+      fine_there : Fine nodes (drop (l + 1) shape) (l + 1) kid
+      fine_there = subst (Fine nodes (drop (l + 1) shape) (l + 1)) (sym kid_is) (kid_fine i within)
 
-        kid_is : kid ≡ get_or x.edges i none_edge
-        kid_is = get_or-take n x.edges i none_edge (omega (arith, within, count))
+      next_chart : chart (nodes_in mid) (drop (l + 1) shape) kid ≡ piece shape l (chart nodes (drop l shape) (rest_of e)) i
+      next_chart = chart_kept nodes (nodes_in mid) p.begun.way.grows.kept shape store (drop (l + 1) shape) (l + 1) kid refl fine_there ∙ ap (chart nodes (drop (l + 1) shape)) kid_is ∙ kid_chart i within
 
-        fine_there : Fine nodes (drop (l + 1) shape) (l + 1) kid
-        fine_there = subst (Fine nodes (drop (l + 1) shape) (l + 1)) (sym kid_is) (kid_fine i within)
+      -- what is asked of the kid
+      pub next_fine : Fine (nodes_in mid) (drop (l + 1) (shape_in mid)) (l + 1) kid
+      next_fine = subst (λ t. Fine (nodes_in mid) (drop (l + 1) t) (l + 1) kid) (sym p.begun.same) (fine_kept nodes (nodes_in mid) p.begun.way.grows.kept (drop (l + 1) shape) (l + 1) kid fine_there)
 
-        next_chart : chart (nodes_in mid) (drop (l + 1) shape) kid ≡ piece shape l (chart nodes (drop l shape) (rest_of e)) i
-        next_chart = chart_kept nodes (nodes_in mid) b.way.grows.kept shape store (drop (l + 1) shape) (l + 1) kid refl fine_there ∙ ap (chart nodes (drop (l + 1) shape)) kid_is ∙ kid_chart i within
+      pub next_timely : some late (chart (nodes_in mid) (drop (l + 1) (shape_in mid)) kid) ≡ false
+      next_timely = ap (λ t. some late (chart (nodes_in mid) (drop (l + 1) t) kid)) p.begun.same ∙ ap (some late) next_chart ∙ piece_timely shape l (chart nodes (drop l shape) (rest_of e)) i rest_timely
 
-        -- what is asked of the kid
-        pub next_fine : Fine (nodes_in mid) (drop (l + 1) (shape_in mid)) (l + 1) kid
-        next_fine = subst (λ t. Fine (nodes_in mid) (drop (l + 1) t) (l + 1) kid) (sym b.same) (fine_kept nodes (nodes_in mid) b.way.grows.kept (drop (l + 1) shape) (l + 1) kid fine_there)
+      -- what it is to have, in the store so far
+      abbrev next : Chart
+      next = goal (nodes_in mid) (shape_in mid) (l + 1) v d kid
 
-        pub next_timely : some late (chart (nodes_in mid) (drop (l + 1) (shape_in mid)) kid) ≡ false
-        next_timely = ap (λ t. some late (chart (nodes_in mid) (drop (l + 1) t) kid)) b.same ∙ ap (some late) next_chart ∙ piece_timely shape l (chart nodes (drop l shape) (rest_of e)) i rest_timely
+      next_is : next ≡ piece shape l inner i
+      next_is = ap (λ t. goal (nodes_in mid) t (l + 1) v d kid) p.begun.same ∙ ap (put_chart (drop (l + 1) shape) (v - (l + 1)) d) next_chart ∙ inner_piece p.below i within
 
-        -- what it is to have, in the store so far
-        abbrev next : Chart
-        next = goal (nodes_in mid) (shape_in mid) (l + 1) v d kid
+      module _ (new : NodeStore) (g : Grew mid new (l + 1) next) where
+        pub put_grew : Grew old new l whole
+        put_grew = grew_alike old new l inner whole inner_parts (grew_next old mid new l inner i kids lt p.begun next within next_is g)
 
-        next_is : next ≡ piece shape l inner i
-        next_is = ap (λ t. goal (nodes_in mid) t (l + 1) v d kid) b.same ∙ ap (put_chart (drop (l + 1) shape) (v - (l + 1)) d) next_chart ∙ inner_piece i within
+        pub put_none : (r : Option Edge) → r ≡ None → Stuck (nodes_in new) (shape_in mid) (l + 1) next → Built (nodes_in new) shape l whole r
+        put_none r none t = subst (Built (nodes_in new) shape l whole) (sym none) (stuck_whole (nodes_in new) (stuck_next old mid new l inner i kids lt p.begun next within next_is g t))
 
-        module _ (new : NodeStore) (g : Grew mid new (l + 1) next) where
-          pub put_grew : Grew old new l whole
-          put_grew = grew_alike old new l inner whole inner_parts (grew_next old mid new l inner i kids lt b next within next_is g)
+        pub put_more : (made : Edge) → Stands (nodes_in new) (shape_in mid) (l + 1) next made → Begun old new l inner (i + 1) (set kids i made)
+        put_more made st = begun_next old mid new l inner i kids lt p.begun next within next_is g made st
 
-          pub put_none : (r : Option Edge) → r ≡ None → Stuck (nodes_in new) (shape_in mid) (l + 1) next → Built (nodes_in new) shape l whole r
-          put_none r none t = subst (Built (nodes_in new) shape l whole) (sym none) (stuck_whole (nodes_in new) (stuck_next old mid new l inner i kids lt b next within next_is g t))
+    -- all of them
+    module _ (most : i ≤ length (take n x.edges)) (least : length (take n x.edges) ≤ i) where
+      all : i ≡ get_or shape l 0
+      all = omega (arith, most, least, edges_counted)
 
-          pub put_more : (made : Edge) → Stands (nodes_in new) (shape_in mid) (l + 1) next made → Begun old new l inner (i + 1) (set kids i made)
-          put_more made st = begun_next old mid new l inner i kids lt b next within next_is g made st
+      pub put_kids : Kids (nodes_in mid) (get_or (shape_in mid) l 0) (drop (l + 1) (shape_in mid)) l kids
+      put_kids = begun_kids old mid mid l inner i kids lt p.begun inner all (inner_long p.below)
 
-      -- all of them
-      module _ (most : i ≤ length (take n x.edges)) (least : length (take n x.edges) ≤ i) where
-        all : i ≡ get_or shape l 0
-        all = omega (arith, most, least, edges_counted)
+      pub put_timely : some late (together (nodes_in mid) (shape_in mid) l kids) ≡ false
+      put_timely = begun_timely old mid mid l inner i kids lt p.begun inner all (inner_long p.below) inner_timely
 
-        pub put_kids : Kids (nodes_in mid) (get_or (shape_in mid) l 0) (drop (l + 1) (shape_in mid)) l kids
-        put_kids = begun_kids old mid mid l inner i kids lt b inner all inner_long
+      module _ {new : NodeStore} (g : Grew mid new l (together (nodes_in mid) (shape_in mid) l kids)) where
+        grew_inner : Grew old new l inner
+        grew_inner = grew_made old mid new l inner i kids lt p.begun inner all (inner_long p.below) g
 
-        pub put_timely : some late (together (nodes_in mid) (shape_in mid) l kids) ≡ false
-        put_timely = begun_timely old mid mid l inner i kids lt b inner all inner_long inner_timely
+        pub made_grew : Grew old new l whole
+        made_grew = grew_alike old new l inner whole inner_parts grew_inner
 
-        module _ {new : NodeStore} (g : Grew mid new l (together (nodes_in mid) (shape_in mid) l kids)) where
-          grew_inner : Grew old new l inner
-          grew_inner = grew_made old mid new l inner i kids lt b inner all inner_long g
+        pub made_none : (r : Option Edge) → r ≡ None → Stuck (nodes_in new) (shape_in mid) l (together (nodes_in mid) (shape_in mid) l kids) → Built (nodes_in new) shape l whole r
+        made_none r none t = subst (Built (nodes_in new) shape l whole) (sym none) (stuck_whole (nodes_in new) (built_made old mid new l inner i kids lt p.begun inner all (inner_long p.below) None t))
 
-          pub made_grew : Grew old new l whole
-          made_grew = grew_alike old new l inner whole inner_parts grew_inner
+        module _ (made : Edge) (st : Stands (nodes_in new) (shape_in mid) l (together (nodes_in mid) (shape_in mid) l kids) made) where
+          stands : Stands (nodes_in new) shape l inner made
+          stands = built_made old mid new l inner i kids lt p.begun inner all (inner_long p.below) (Some made) st
 
-          pub made_none : (r : Option Edge) → r ≡ None → Stuck (nodes_in new) (shape_in mid) l (together (nodes_in mid) (shape_in mid) l kids) → Built (nodes_in new) shape l whole r
-          made_none r none t = subst (Built (nodes_in new) shape l whole) (sym none) (stuck_whole (nodes_in new) (built_made old mid new l inner i kids lt b inner all inner_long None t))
+          pub made_timely : late (plus (Some w) made.weight) ≡ false
+          made_timely = known_timely (nodes_in new) grew_inner.grows.store made stands
 
-          module _ (made : Edge) (st : Stands (nodes_in new) (shape_in mid) l (together (nodes_in mid) (shape_in mid) l kids) made) where
-            stands : Stands (nodes_in new) shape l inner made
-            stands = built_made old mid new l inner i kids lt b inner all inner_long (Some made) st
+          pub made_right : Right (nodes_in new) (shape_in new) (key_of l v d e) made
+          made_right = subst (λ t. Right (nodes_in new) t (key_of l v d e) made) (sym grew_inner.same) (known_right (nodes_in new) grew_inner.grows.kept made stands)
 
-            pub made_timely : late (plus (Some w) made.weight) ≡ false
-            made_timely = known_timely (nodes_in new) grew_inner.grows.store made stands
-
-            pub made_right : Right (nodes_in new) (shape_in new) (key_of l v d e) made
-            made_right = subst (λ t. Right (nodes_in new) t (key_of l v d e) made) (sym grew_inner.same) (known_right (nodes_in new) grew_inner.grows.kept made stands)
-
-            pub made_stands : (r : Edge) → r ≡ raised (Some w) made → Stands (nodes_in new) shape l whole r
-            made_stands r same = known_stands (nodes_in new) grew_inner.grows.store made r stands same
+          pub made_stands : (r : Edge) → r ≡ raised (Some w) made → Stands (nodes_in new) shape l whole r
+          made_stands r same = known_stands (nodes_in new) grew_inner.grows.store made r stands same

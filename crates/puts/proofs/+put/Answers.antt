@@ -4,7 +4,7 @@ use Rattle.build.specs.Builds.{Built}
 use Rattle.build.specs.Grew.{nodes_in, shape_in, Grew}
 use Rattle.build.specs.declared.node_store.NodeStore.{NodeStore}
 use Rattle.puts.specs.Puts as puts
-use Rattle.puts.proofs.Putting.{Side, put_skipped, there_raise, there_fine, there_timely, there_is, known_timely, known_stands, next_fine, next_timely, put_grew, put_none, put_more, put_kids, put_timely, made_grew, made_none, made_timely, made_right, made_stands}
+use Rattle.puts.proofs.Putting.{Side, Way, put_skipped, there_raise, there_fine, there_timely, there_is, known_timely, known_stands, next_fine, next_timely, put_grew, put_none, put_more, put_kids, put_timely, made_grew, made_none, made_timely, made_right, made_stands}
 use Rattle.puts.proofs.+put.Goals.{After-from, At-loop-i}
 use Rattle.puts.proofs.+put.Goals as goal
 
@@ -19,8 +19,12 @@ side t c = record {
   here = c.node_at-node.ensures.value;
 }
 
-below : (t : ℕ) (c : At-loop-i t) → c.args.level < c.args.device
-below t c = omega (arith, c.requires.above, c.if-level-from.false, c.from.ensures)
+way : (t : ℕ) (c : At-loop-i t) → Way c.args.diagrams.now.store c.loop-i.diagrams.store c.args.level c.args.device c.args.setting c.args.e c.count-count.result c.loop-i.i c.loop-i.kids
+way t c = record {
+  below = omega (arith, c.requires.above, c.if-level-from.false, c.from.ensures);
+  begun = c.loop-i.invariant;
+  count = c.count-count.ensures.value;
+}
 
 pub returns-in_default-clause-built : goal.returns-in_default-clause-built
 returns-in_default-clause-built t c =
@@ -65,19 +69,16 @@ returns-in-Some-recall-clause-built t c =
 pub put-requires : goal.put-requires
 put-requires t c =
     let s = side t (goal.at.put-requires t c).After-from in
-    let b = below t (goal.at.put-requires t c).At-loop-i in
-    let begun = c.loop-i.invariant in
-    let same = sym begun.same in
-    let n = c.count-count.result in
-    let count = c.count-count.ensures.value in (
-      omega (arith, b, c.requires.depth, ap length begun.same),
+    let p = way t (goal.at.put-requires t c).At-loop-i in
+    let same = sym p.begun.same in (
+      omega (arith, p.below, c.requires.depth, ap length p.begun.same),
       (
-        omega (arith, b),
+        omega (arith, p.below),
         (
           subst (λ u. c.args.device < length u) same c.requires.depth,
           (
             subst (λ u. c.args.setting < get_or u c.args.device 0) same c.requires.legal,
-            (next_fine s b begun n count c.loop-i-test.true, next_timely s b begun n count c.loop-i-test.true),
+            (next_fine s p c.loop-i-test.true, next_timely s p c.loop-i-test.true),
           ),
         ),
       ),
@@ -86,68 +87,68 @@ put-requires t c =
 pub returns-in_err-kids : goal.returns-in_err-kids
 returns-in_err-kids t c =
     let s = side t (goal.at.returns-in_err-kids t c).After-from in
-    let b = below t (goal.at.returns-in_err-kids t c).At-loop-i in
+    let p = way t (goal.at.returns-in_err-kids t c).At-loop-i in
     let new = c.put.new.diagrams.store in
     let got = c.in_err-kids.ensures in
     record {
-      grew = put_grew s b c.loop-i.invariant c.count-count.result c.count-count.ensures.value c.loop-i-test.true new got.grew;
-      built = put_none s b c.loop-i.invariant c.count-count.result c.count-count.ensures.value c.loop-i-test.true new got.grew c.from_residual.result c.from_residual.ensures got.built;
+      grew = put_grew s p c.loop-i-test.true new got.grew;
+      built = put_none s p c.loop-i-test.true new got.grew c.from_residual.result c.from_residual.ensures got.built;
     }
 
 pub loop-i-preserved : goal.loop-i-preserved
 loop-i-preserved t c =
     let s = side t (goal.at.loop-i-preserved t c).After-from in
-    let b = below t (goal.at.loop-i-preserved t c).At-loop-i in
+    let p = way t (goal.at.loop-i-preserved t c).At-loop-i in
     let got = c.in_ok-kids.ensures in
-    put_more s b c.loop-i.invariant c.count-count.result c.count-count.ensures.value c.loop-i-test.true c.put.new.diagrams.store got.grew c.in_ok-kids.field-0 got.built
+    put_more s p c.loop-i-test.true c.put.new.diagrams.store got.grew c.in_ok-kids.field-0 got.built
 
 -- and made of them
 
 pub make-requires-clause-kids : goal.make-requires-clause-kids
 make-requires-clause-kids t c =
     let s = side t (goal.at.make-requires-clause-kids t c).After-from in
-    let b = below t (goal.at.make-requires-clause-kids t c).At-loop-i in
-    put_kids s b c.loop-i.invariant c.count-count.result c.count-count.ensures.value c.loop-i.auto.i-end c.loop-i-test.false
+    let p = way t (goal.at.make-requires-clause-kids t c).At-loop-i in
+    put_kids s p c.loop-i.auto.i-end c.loop-i-test.false
 
 pub make-requires-clause-timely : goal.make-requires-clause-timely
 make-requires-clause-timely t c =
     let s = side t (goal.at.make-requires-clause-timely t c).After-from in
-    let b = below t (goal.at.make-requires-clause-timely t c).At-loop-i in
-    put_timely s b c.loop-i.invariant c.count-count.result c.count-count.ensures.value c.loop-i.auto.i-end c.loop-i-test.false
+    let p = way t (goal.at.make-requires-clause-timely t c).At-loop-i in
+    put_timely s p c.loop-i.auto.i-end c.loop-i-test.false
 
 pub returns-in_err-made : goal.returns-in_err-made
 returns-in_err-made t c =
     let s = side t (goal.at.returns-in_err-made t c).After-from in
-    let b = below t (goal.at.returns-in_err-made t c).At-loop-i in
+    let p = way t (goal.at.returns-in_err-made t c).At-loop-i in
     let got = c.in_err-made.ensures in
     record {
-      grew = made_grew s b c.loop-i.invariant c.count-count.result c.count-count.ensures.value c.loop-i.auto.i-end c.loop-i-test.false got.grew;
-      built = made_none s b c.loop-i.invariant c.count-count.result c.count-count.ensures.value c.loop-i.auto.i-end c.loop-i-test.false got.grew c.from_residual-in_err-made.result c.from_residual-in_err-made.ensures got.built;
+      grew = made_grew s p c.loop-i.auto.i-end c.loop-i-test.false got.grew;
+      built = made_none s p c.loop-i.auto.i-end c.loop-i-test.false got.grew c.from_residual-in_err-made.result c.from_residual-in_err-made.ensures got.built;
     }
 
 pub remember-requires : goal.remember-requires
 remember-requires t c =
     let s = side t (goal.at.remember-requires t c).After-from in
-    let b = below t (goal.at.remember-requires t c).At-loop-i in
+    let p = way t (goal.at.remember-requires t c).At-loop-i in
     let got = c.in_ok-made.ensures in
-    record { right = made_right s b c.loop-i.invariant c.count-count.result c.count-count.ensures.value c.loop-i.auto.i-end c.loop-i-test.false got.grew c.in_ok-made.made got.built }
+    record { right = made_right s p c.loop-i.auto.i-end c.loop-i-test.false got.grew c.in_ok-made.made got.built }
 
 pub raise-requires-2 : goal.raise-requires-2
 raise-requires-2 t c =
     let s = side t (goal.at.raise-requires-2 t c).After-from in
-    let b = below t (goal.at.raise-requires-2 t c).At-loop-i in
+    let p = way t (goal.at.raise-requires-2 t c).At-loop-i in
     let got = c.in_ok-made.ensures in
-    made_timely s b c.loop-i.invariant c.count-count.result c.count-count.ensures.value c.loop-i.auto.i-end c.loop-i-test.false got.grew c.in_ok-made.made got.built
+    made_timely s p c.loop-i.auto.i-end c.loop-i-test.false got.grew c.in_ok-made.made got.built
 
 pub returns : goal.returns
 returns t c =
     let s = side t (goal.at.returns t c).After-from in
-    let b = below t (goal.at.returns t c).At-loop-i in
+    let p = way t (goal.at.returns t c).At-loop-i in
     let old = c.args.diagrams.now.store in
     let chart = puts.goal (nodes_in old) (shape_in old) c.args.level c.args.device c.args.setting c.args.e in
     let same = sym c.remember.ensures.store in
     let got = c.in_ok-made.ensures in
     record {
-      grew = subst (λ (u : NodeStore). Grew old u c.args.level chart) same (made_grew s b c.loop-i.invariant c.count-count.result c.count-count.ensures.value c.loop-i.auto.i-end c.loop-i-test.false got.grew);
-      built = subst (λ (u : NodeStore). Built (nodes_in u) (shape_in old) c.args.level chart (Some c.raise-2.result)) same (made_stands s b c.loop-i.invariant c.count-count.result c.count-count.ensures.value c.loop-i.auto.i-end c.loop-i-test.false got.grew c.in_ok-made.made got.built c.raise-2.result c.raise-2.ensures);
+      grew = subst (λ (u : NodeStore). Grew old u c.args.level chart) same (made_grew s p c.loop-i.auto.i-end c.loop-i-test.false got.grew);
+      built = subst (λ (u : NodeStore). Built (nodes_in u) (shape_in old) c.args.level chart (Some c.raise-2.result)) same (made_stands s p c.loop-i.auto.i-end c.loop-i-test.false got.grew c.in_ok-made.made got.built c.raise-2.result c.raise-2.ensures);
     }
