@@ -10,6 +10,12 @@ use build::reach::node_at;
 use nodes::edge::Edge;
 use nodes::node::Node;
 
+/// Before its kids are known, a node's edges are never, and lead nowhere.
+const NO_EDGES: [Edge; 8] = [Edge {
+    weight: None,
+    child: 0,
+}; 8];
+
 /// The edge with the chart of `e` in another store, into which the nodes that it reaches are copied, each once; none
 /// where no slot is free for one.
 pub fn copy(
@@ -34,33 +40,18 @@ pub fn copy(
         return Some(e);
     }
     if let Some(child) = moved_to(moved, e.child) {
-        return Some(Edge {
-            weight: e.weight,
-            child,
-        });
+        return Some(Edge { child, ..e });
     }
     let node = node_at(source, e.child);
-    let count = settings[level] as usize;
-    let mut kids = [Edge {
-        weight: None,
-        child: 0,
-    }; 8];
-    for i in 0..count {
-        match copy(source, nodes, moved, settings, level + 1, node.edges[i]) {
-            Some(kid) => {
-                kids[i] = kid;
-            }
-            None => return None,
-        }
+    let count = usize::from(settings[level]);
+    let mut kids = NO_EDGES;
+    for (i, kid) in node.edges[..count].iter().enumerate() {
+        kids[i] = copy(source, nodes, moved, settings, level + 1, *kid)?;
     }
-    match make(nodes, settings, level, kids) {
-        Some(made) => {
-            note(moved, e.child, made.child);
-            Some(Edge {
-                weight: e.weight,
-                child: made.child,
-            })
-        }
-        None => None,
-    }
+    let made = make(nodes, settings, level, kids)?;
+    note(moved, e.child, made.child);
+    Some(Edge {
+        weight: e.weight,
+        child: made.child,
+    })
 }

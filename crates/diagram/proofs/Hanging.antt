@@ -1,5 +1,6 @@
 -- What hanging a chart leaves of a diagram shelf. Assumes nothing.
-use Rattle.std.proofs.Common.{◌≡◌, ℕ, Bool, true, false, ltb, List, length, set, Some, Option, sym, ap, subst}
+use Rattle.std.proofs.Common.{◌≡◌, ℕ, List, length, Some, None, Option, Result, sym, refl, ap, subst}
+use Rattle.std.specs.Option.{ok_or}
 use mathlib.Core.Logic.{∥∥₁_elim}
 use Rattle.std.proofs.lemmas.Bool.{le-ltb, lt-ltb}
 use Rattle.nodes.specs.declared.edge.Edge.{Edge}
@@ -12,8 +13,11 @@ use Rattle.memo.specs.Results.{Knows}
 use Rattle.pegs.specs.Held.{pegs_of, Held}
 use Rattle.hang.specs.Tasks.{Allowed, made, Told}
 use Rattle.hang.specs.declared.task.Task.{Task}
+use Rattle.diagram.specs.Means.{Hung}
 use Rattle.memo.specs.Once.{knows_prop}
 use Rattle.diagram.proofs.Once.{held_prop}
+use Rattle.shelf.specs.declared.fault.ShelfFault.{ShelfFault}
+use Rattle.shelf.specs.declared.fault.ShelfFault.TheVariants.{NoRoom}
 
 pub held_in : (xs ys : List (Option Node)) (ns ms : Shape) (pegs : List (Option Edge)) → xs ≡ ys → ns ≡ ms → ∥ Held ys ms pegs ∥₁ → Held xs ns pegs
 held_in xs ys ns ms pegs p q h =
@@ -41,21 +45,25 @@ allowed_in xs ys ns ms pegs task p q h = let u = sym p in let v = sym q in coe 0
 abbrev pub meant : Shape → ℕ → Pegs → Meaning
 meant ns cap ps = record { shape = ns; capacity = cap; fill = diagram_fill ns; pegs = ps }
 
-module _ (xs ys new mew : List (Option Node)) (ns ms : Shape) (pegs after : List (Option Edge)) (task : Task) (t cap : ℕ) (r : Bool) (p : xs ≡ ys) (q : ns ≡ ms) (u : mew ≡ new) (len : length xs ≡ cap) (told : Told (length xs) ns (pegs_of xs ns pegs) (pegs_of new ns after) (made ns (pegs_of xs ns pegs) task) t r) where
+module _ (xs ys new mew : List (Option Node)) (ns ms : Shape) (pegs after : List (Option Edge)) (task : Task) (t cap : ℕ) (r : Option (Unit {0})) (p : xs ≡ ys) (q : ns ≡ ms) (u : mew ≡ new) (len : length xs ≡ cap) (told : Told (length xs) ns (pegs_of xs ns pegs) (pegs_of new ns after) (made ns (pegs_of xs ns pegs) task) t r) where
   abbrev chart : List (Option Node) → Shape → Chart
   chart zs ls = made ls (pegs_of zs ls pegs) task
+
+  -- the meanings before and after
+  abbrev first : Meaning
+  first = meant ms cap (pegs_of ys ms pegs)
+
+  abbrev last : Meaning
+  last = meant ms cap (pegs_of mew ms after)
 
   told_at : Told cap ms (pegs_of ys ms pegs) (pegs_of mew ms after) (chart ys ms) t r
   told_at =
       let w = sym u in
       coe 0 1 (i. Told (len i) (q i) (pegs_of (p i) (q i) pegs) (pegs_of (w i) (q i) after) (chart (p i) (q i)) t r) told
 
-  pub hung_true : r ≡ true → (ltb cap (diagram_fill ms (pegs_of ys ms pegs) (chart ys ms)) ≡ false) × (meant ms cap (pegs_of mew ms after) ≡ meant ms cap (set (pegs_of ys ms pegs) t (Some (chart ys ms))))
-  hung_true h =
-      let s = subst (Told cap ms (pegs_of ys ms pegs) (pegs_of mew ms after) (chart ys ms) t) h told_at in
-      (le-ltb cap (diagram_fill ms (pegs_of ys ms pegs) (chart ys ms)) s.0, ap (meant ms cap) s.1)
-
-  pub hung_false : r ≡ false → (ltb cap (diagram_fill ms (pegs_of ys ms pegs) (chart ys ms)) ≡ true) × (meant ms cap (pegs_of mew ms after) ≡ meant ms cap (pegs_of ys ms pegs))
-  hung_false h =
-      let s = subst (Told cap ms (pegs_of ys ms pegs) (pegs_of mew ms after) (chart ys ms) t) h told_at in
-      (lt-ltb cap (diagram_fill ms (pegs_of ys ms pegs) (chart ys ms)) s.0, ap (meant ms cap) s.1)
+  pub hung : (a : Result (Unit {0}) ShelfFault) → a ≡ ok_or r NoRoom → Hung first last t (chart ys ms) a
+  hung a is = subst (Hung first last t (chart ys ms)) (sym is) (go r told_at)
+    where
+      go : (o : Option (Unit {0})) → Told cap ms (pegs_of ys ms pegs) (pegs_of mew ms after) (chart ys ms) t o → Hung first last t (chart ys ms) (ok_or o NoRoom)
+      go (Some _) h = (le-ltb cap (diagram_fill ms (pegs_of ys ms pegs) (chart ys ms)) h.0, ap (meant ms cap) h.1)
+      go None h = (refl, lt-ltb cap (diagram_fill ms (pegs_of ys ms pegs) (chart ys ms)) h.0, ap (meant ms cap) h.1)

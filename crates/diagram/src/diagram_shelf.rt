@@ -1,4 +1,5 @@
 ghost use Rattle.std.specs.Prelude.{◌≡◌, length, vec_len};
+ghost use Rattle.lists.specs.declared.limits.TheConstants.{PEGS};
 ghost use Rattle.shelf.specs.Shapes.{shape_of};
 ghost use Rattle.memo.specs.Results.{Knows};
 ghost use Rattle.pegs.specs.Held.{Held};
@@ -20,7 +21,7 @@ pub struct DiagramShelf {
     moved: Vec<Option<u16>>,
     memo: Vec<Option<Remembered>>,
     pegs: [Option<Edge>; PEGS],
-    ghost eight: { length pegs ≡ 8 },
+    ghost eight: { length pegs ≡ PEGS },
     ghost size: { vec_len spare ≡ vec_len nodes },
     ghost held: { ∥ Held nodes.items (shape_of shape) pegs ∥₁ },
     ghost knows: { ∥ Knows nodes.items (shape_of shape) memo.items ∥₁ },

@@ -16,15 +16,14 @@ use puts::put;
 pub fn peg_at(pegs: &[Option<Edge>], i: u8) -> Option<Edge>
     ensures { result ≡ slice_index_or pegs.now i None }
 {
-    let i = i as usize;
-    if i < pegs.len() { pegs[i] } else { None }
+    pegs.get(usize::from(i)).copied().flatten()
 }
 
 /// The edge of two pegs joined.
 fn join_pegs(
     op: Op,
-    a: u8,
-    b: u8,
+    left: u8,
+    right: u8,
     nodes: &mut [Option<Node>],
     memo: &mut [Option<Remembered>],
     settings: &[u8],
@@ -32,23 +31,19 @@ fn join_pegs(
 ) -> Option<Edge>
     requires held { Held nodes.old settings.now pegs.now }
     requires knows { Knows nodes.old settings.now memo.old }
-    requires allowed { Allowed settings.now (pegs_of nodes.old settings.now pegs.now) (Task.Join op a b) }
-    ensures grows { Grows nodes.old nodes.new settings.now 0 (made settings.now (pegs_of nodes.old settings.now pegs.now) (Task.Join op a b)) }
+    requires allowed { Allowed settings.now (pegs_of nodes.old settings.now pegs.now) (Task.Join op left right) }
+    ensures grows { Grows nodes.old nodes.new settings.now 0 (made settings.now (pegs_of nodes.old settings.now pegs.now) (Task.Join op left right)) }
     ensures knows { Knows nodes.new settings.now memo.new }
-    ensures built { Built nodes.new settings.now 0 (made settings.now (pegs_of nodes.old settings.now pegs.now) (Task.Join op a b)) result }
+    ensures built { Built nodes.new settings.now 0 (made settings.now (pegs_of nodes.old settings.now pegs.now) (Task.Join op left right)) result }
 {
-    let Some(x) = peg_at(pegs, a) else {
-        return None;
-    };
-    let Some(y) = peg_at(pegs, b) else {
-        return None;
-    };
+    let x = peg_at(pegs, left)?;
+    let y = peg_at(pegs, right)?;
     join(op, nodes, memo, settings, 0, x, y)
 }
 
 /// The edge of a peg once a device is at a setting.
 fn put_peg(
-    a: u8,
+    peg: u8,
     device: u8,
     setting: u8,
     nodes: &mut [Option<Node>],
@@ -58,14 +53,12 @@ fn put_peg(
 ) -> Option<Edge>
     requires held { Held nodes.old settings.now pegs.now }
     requires knows { Knows nodes.old settings.now memo.old }
-    requires allowed { Allowed settings.now (pegs_of nodes.old settings.now pegs.now) (Task.Put a device setting) }
-    ensures grows { Grows nodes.old nodes.new settings.now 0 (made settings.now (pegs_of nodes.old settings.now pegs.now) (Task.Put a device setting)) }
+    requires allowed { Allowed settings.now (pegs_of nodes.old settings.now pegs.now) (Task.Put peg device setting) }
+    ensures grows { Grows nodes.old nodes.new settings.now 0 (made settings.now (pegs_of nodes.old settings.now pegs.now) (Task.Put peg device setting)) }
     ensures knows { Knows nodes.new settings.now memo.new }
-    ensures built { Built nodes.new settings.now 0 (made settings.now (pegs_of nodes.old settings.now pegs.now) (Task.Put a device setting)) result }
+    ensures built { Built nodes.new settings.now 0 (made settings.now (pegs_of nodes.old settings.now pegs.now) (Task.Put peg device setting)) result }
 {
-    let Some(e) = peg_at(pegs, a) else {
-        return None;
-    };
+    let e = peg_at(pegs, peg)?;
     put(nodes, memo, settings, 0, device, setting, e)
 }
 
@@ -79,19 +72,23 @@ fn attempt(
 ) -> Option<Edge>
     requires held { Held nodes.old settings.now pegs.now }
     requires knows { Knows nodes.old settings.now memo.old }
-    requires allowed { Allowed settings.now (pegs_of nodes.old settings.now pegs.now) (task) }
-    ensures grows { Grows nodes.old nodes.new settings.now 0 (made settings.now (pegs_of nodes.old settings.now pegs.now) (task)) }
+    requires allowed { Allowed settings.now (pegs_of nodes.old settings.now pegs.now) task }
+    ensures grows { Grows nodes.old nodes.new settings.now 0 (made settings.now (pegs_of nodes.old settings.now pegs.now) task) }
     ensures knows { Knows nodes.new settings.now memo.new }
-    ensures built { Built nodes.new settings.now 0 (made settings.now (pegs_of nodes.old settings.now pegs.now) (task)) result }
+    ensures built { Built nodes.new settings.now 0 (made settings.now (pegs_of nodes.old settings.now pegs.now) task) result }
 {
     match task {
-        Task::Dial(device, entries) => dial(nodes, settings, 0, device as usize, &entries),
-        Task::Join(op, a, b) => join_pegs(op, a, b, nodes, memo, settings, pegs),
-        Task::Put(a, device, setting) => put_peg(a, device, setting, nodes, memo, settings, pegs),
+        Task::Dial { device, entries } => dial(nodes, settings, 0, usize::from(device), &entries),
+        Task::Join { op, left, right } => join_pegs(op, left, right, nodes, memo, settings, pegs),
+        Task::Put {
+            peg,
+            device,
+            setting,
+        } => put_peg(peg, device, setting, nodes, memo, settings, pegs),
     }
 }
 
-/// Hangs the chart on a peg, unless no slot is free for one of its parts.
+/// Hangs the chart on a peg, or none where no slot is free for one of its parts.
 pub fn try_to_hang(
     task: Task,
     nodes: &mut [Option<Node>],
@@ -99,7 +96,7 @@ pub fn try_to_hang(
     settings: &[u8],
     pegs: &mut [Option<Edge>],
     target: usize,
-) -> bool
+) -> Option<()>
     requires held { Held nodes.old settings.now pegs.old }
     requires knows { Knows nodes.old settings.now memo.old }
     requires allowed { Allowed settings.now (pegs_of nodes.old settings.now pegs.old) task }
@@ -108,11 +105,7 @@ pub fn try_to_hang(
     ensures knows { Knows nodes.new settings.now memo.new }
     ensures tried { Tried nodes.old settings.now (pegs_of nodes.old settings.now pegs.old) (pegs_of nodes.new settings.now pegs.new) (made settings.now (pegs_of nodes.old settings.now pegs.old) task) target result }
 {
-    match attempt(task, nodes, memo, settings, pegs) {
-        Some(e) => {
-            pegs[target] = Some(e);
-            true
-        }
-        None => false,
-    }
+    let e = attempt(task, nodes, memo, settings, pegs)?;
+    pegs[target] = Some(e);
+    Some(())
 }

@@ -34,8 +34,8 @@ fn collect(
     clear(memo);
 }
 
-/// Hangs a chart on a peg. Where the store is full it is collected, and the chart is tried once more; full again is no
-/// room, and every peg is as it was.
+/// Hangs a chart on a peg. Where the store is full it is collected, and the chart is tried once more; none where it is
+/// full again, and every peg is as it was.
 pub fn hang(
     task: Task,
     nodes: &mut [Option<Node>],
@@ -45,7 +45,7 @@ pub fn hang(
     settings: &[u8],
     pegs: &mut [Option<Edge>],
     target: usize,
-) -> bool
+) -> Option<()>
     requires held { Held nodes.old settings.now pegs.old }
     requires knows { Knows nodes.old settings.now memo.old }
     requires allowed { Allowed settings.now (pegs_of nodes.old settings.now pegs.old) task }
@@ -55,8 +55,8 @@ pub fn hang(
     ensures knows { Knows nodes.new settings.now memo.new }
     ensures told { Told (length nodes.old) settings.now (pegs_of nodes.old settings.now pegs.old) (pegs_of nodes.new settings.now pegs.new) (made settings.now (pegs_of nodes.old settings.now pegs.old) task) target result }
 {
-    if try_to_hang(task, nodes, memo, settings, pegs, target) {
-        return true;
+    if try_to_hang(task, nodes, memo, settings, pegs, target).is_some() {
+        return Some(());
     }
     collect(nodes, spare, moved, memo, settings, pegs);
     try_to_hang(task, nodes, memo, settings, pegs, target)

@@ -3,6 +3,7 @@ use Rattle.std.proofs.Common.{◌≡◌, ℕ, ◌+◌, ◌<◌, ◌≤◌, List,
 use mathlib.Core.List.{map-append}
 use Rattle.std.specs.List.{AllByRecursion, flat_map}
 use Rattle.std.proofs.lemmas.Bool.{both_ways}
+use Rattle.std.proofs.lemmas.List.Elements.{All-from_recursion, recursion_from_All, All-push}
 use Rattle.std.proofs.lemmas.List.{take_more, take_more_set, take_all, drop-drop, drop-set-lt, get_or-drop}
 use Rattle.table.specs.Tables.{slot, Kept, Empty}
 use Rattle.nodes.specs.declared.edge.Edge.{Edge}
@@ -80,10 +81,6 @@ swept_none source spare shape pegs held size table empty = record {
   long = refl;
 }
 
-all_append : {A : Type 0} (P : A → Type 0) (xs : List A) (y : A) → AllByRecursion P xs → P y → AllByRecursion P (xs ++ y ∷ [])
-all_append P [] y a p = (p, tt)
-all_append P (x ∷ xs) y a p = (a.0, all_append P xs y a.1 p)
-
 module _ (source spare new : List (Option Node)) (shape : Shape) (old pegs : List (Option Edge)) (i : ℕ) (held : Held source shape old) (il : i < length pegs) (w : Swept source spare shape old pegs i) where
   next_is : get_or pegs i None ≡ get_or old i None
   next_is = ap (λ n. get_or pegs n None) (let z : i ≡ i + 0 = omega arith in z) ∙ sym (get_or-drop i pegs 0 None) ∙ ap (λ t. get_or t 0 None) w.rest ∙ get_or-drop i old 0 None ∙ ap (λ n. get_or old n None) (let z : i + 0 ≡ i = omega arith in z)
@@ -100,7 +97,7 @@ module _ (source spare new : List (Option Node)) (shape : Shape) (old pegs : Lis
     ready = ready;
     size = size ∙ w.size;
     owned = owned;
-    fine = subst (AllByRecursion (peg_fine new shape)) (sym (take_more_set pegs i r il)) (all_append (peg_fine new shape) (take i pegs) r (pegs_fine_kept spare new shape w.ready.store kept (take i pegs) w.fine) fine);
+    fine = subst (AllByRecursion (peg_fine new shape)) (sym (take_more_set pegs i r il)) (recursion_from_All (peg_fine new shape) (take i pegs ++ r ∷ []) (All-push (peg_fine new shape) (take i pegs) r (All-from_recursion (peg_fine new shape) (take i pegs) (pegs_fine_kept spare new shape w.ready.store kept (take i pegs) w.fine)) fine));
     same =
         ap (pegs_of new shape) (take_more_set pegs i r il) ∙ map-append (peg_chart new shape) (take i pegs) (r ∷ [])
         ∙ ap (λ t. t ++ peg_chart new shape r ∷ []) (pegs_kept spare new shape w.ready.store kept (take i pegs) w.fine ∙ w.same)

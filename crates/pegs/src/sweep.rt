@@ -25,10 +25,7 @@ fn copy_peg(
     ensures moved { Moved source.now nodes.new settings.now moved.new }
     ensures copies { CopiesPeg source.now nodes.old nodes.new settings.now peg result }
 {
-    match peg {
-        Some(e) => copy(source, nodes, moved, settings, 0, e),
-        None => None,
-    }
+    copy(source, nodes, moved, settings, 0, peg?)
 }
 
 /// Copies what each peg carries into another store.
@@ -44,8 +41,8 @@ fn copy_pegs(
     requires moved { Moved source.now spare.old settings.now moved.old }
     ensures { Collected source.now spare.new settings.now pegs.old pegs.new }
 {
-    for i in 0..pegs.len() {
-        pegs[i] = copy_peg(source, spare, moved, settings, pegs[i]);
+    for peg in pegs.iter_mut() {
+        *peg = copy_peg(source, spare, moved, settings, *peg);
     }
 }
 
