@@ -3,7 +3,7 @@ use Rattle.std.proofs.Common.{◌≡◌, ℕ, zero, suc, ◌+◌, ◌*◌, ◌<�
 use Rattle.std.specs.List.{AllByRecursion, flat_map}
 use Rattle.std.proofs.lemmas.Bool.{cases_eq}
 use Rattle.std.proofs.lemmas.List.{drop_more, drop_all, get_or-map, get_or-set_same, get_or-set_other}
-use Rattle.table.specs.Tables.{slot, Empty}
+use Rattle.table.specs.Tables.{slot}
 use Rattle.nodes.specs.declared.edge.Edge.{Edge}
 use Rattle.nodes.specs.declared.node.Node.{Node}
 use Rattle.model.specs.Charts.{Time, Chart, plus, late}
@@ -18,9 +18,11 @@ use Rattle.store.specs.Fillings.{Stuck}
 use Rattle.store.proofs.Canon.{Known, led, kids_of, knows, knows_kids, kids_long, body_long, body_low, body_high, lowered_is}
 use Rattle.store.proofs.Grows.{fine_kept, chart_kept}
 use Rattle.build.specs.Builds.{piece, Ready, Kids, Grows, Partway, together, Stands}
+use Rattle.build.specs.Grew.{nodes_in, shape_in, Grew}
+use Rattle.build.specs.declared.node_store.NodeStore.{NodeStore}
 use Rattle.build.proofs.Highs.{late_left, late_right}
 use Rattle.build.proofs.Makes.{late_less, highest_never}
-use Rattle.build.proofs.Steps.{get_or_in, grows_then, grows_alike, ready_after, stuck_wider, partway_grows, partway_stuck, partway_more, partway_kids, partway_all}
+use Rattle.build.proofs.Steps.{get_or_in, grows_then, grows_alike, stuck_wider, partway_grows, partway_stuck, partway_more, partway_kids, partway_all}
 use Rattle.collect.specs.Copies.{Noted, Moved}
 
 -- What is late
@@ -144,20 +146,17 @@ module _ {source : List (Option Node)} {shape : Shape} {l : ℕ} {e : Edge} (sid
 
   -- the loop
   module _ {old mid : List (Option Node)} (ready : Ready old shape) {i : ℕ} {kids : List Edge} (way : Partway old mid shape l (aim source shape l e) i kids) where
-    pub copy_ready : Ready mid shape
-    copy_ready = ready_after old mid shape l (aim source shape l e) ready way.grows
-
     module _ {kid : Edge} (item : Item source shape l e i kid) {new : List (Option Node)} (g : Grows mid new shape (l + 1) (chart source (drop (l + 1) shape) kid)) where
       grew : Grows mid new shape (l + 1) (piece shape l (aim source shape l e) i)
       grew = subst (Grows mid new shape (l + 1)) (kid_piece item) g
 
-      pub copy_grows : Grows old new shape l (chart source (drop l shape) e)
+      copy_grows : Grows old new shape l (chart source (drop l shape) e)
       copy_grows = grows_alike old new shape l (aim source shape l e) (chart source (drop l shape) e) same_parts (partway_grows old mid new shape l (aim source shape l e) i kids ready.store side.lt item.below way grew)
 
-      pub copy_stuck : Stuck new shape (l + 1) (chart source (drop (l + 1) shape) kid) → Stuck new shape l (chart source (drop l shape) e)
+      copy_stuck : Stuck new shape (l + 1) (chart source (drop (l + 1) shape) kid) → Stuck new shape l (chart source (drop l shape) e)
       copy_stuck s = stuck_wider new shape l l (chart source (drop l shape) e) (aim source shape l e) (λ p h. subst (In p) same_parts h) (partway_stuck old mid new shape l (aim source shape l e) i kids ready.store side.lt item.below way grew (subst (Stuck new shape (l + 1)) (kid_piece item) s))
 
-      pub copy_more : (d : Edge) → Stands new shape (l + 1) (chart source (drop (l + 1) shape) kid) d → Partway old new shape l (aim source shape l e) (i + 1) (set kids i d)
+      copy_more : (d : Edge) → Stands new shape (l + 1) (chart source (drop (l + 1) shape) kid) d → Partway old new shape l (aim source shape l e) (i + 1) (set kids i d)
       copy_more d st = partway_more old mid new shape l (aim source shape l e) i kids ready.store side.lt item.below way grew d (ready.few l) st.0 (st.1 ∙ kid_piece item)
 
     module _ (all : i ≡ get_or shape l 0) where
@@ -167,23 +166,23 @@ module _ {source : List (Option Node)} {shape : Shape} {l : ℕ} {e : Edge} (sid
       copy_together : together mid shape l kids ≡ aim source shape l e
       copy_together = partway_all old mid shape l (aim source shape l e) kids (ready.few l) end aim_long
 
-      pub copy_kids : Kids mid (get_or shape l 0) (drop (l + 1) shape) l kids
+      copy_kids : Kids mid (get_or shape l 0) (drop (l + 1) shape) l kids
       copy_kids = partway_kids old mid shape l (aim source shape l e) kids (ready.few l) end
 
-      pub copy_timely : late (below source (drop l shape) e) ≡ false → some late (together mid shape l kids) ≡ false
+      copy_timely : late (below source (drop l shape) e) ≡ false → some late (together mid shape l kids) ≡ false
       copy_timely h = ap (some late) copy_together ∙ aim_timely h
 
-      pub copy_made : {new : List (Option Node)} → Grows mid new shape l (together mid shape l kids) → Grows old new shape l (chart source (drop l shape) e)
+      copy_made : {new : List (Option Node)} → Grows mid new shape l (together mid shape l kids) → Grows old new shape l (chart source (drop l shape) e)
       copy_made {new} g = grows_alike old new shape l (aim source shape l e) (chart source (drop l shape) e) same_parts (grows_then old mid new shape l l (aim source shape l e) (aim source shape l e) ready.store (λ p h. h) way.grows (subst (Grows mid new shape l) copy_together g))
 
-      pub copy_full : {new : List (Option Node)} → Stuck new shape l (together mid shape l kids) → Stuck new shape l (chart source (drop l shape) e)
+      copy_full : {new : List (Option Node)} → Stuck new shape l (together mid shape l kids) → Stuck new shape l (chart source (drop l shape) e)
       copy_full {new} s = stuck_wider new shape l l (chart source (drop l shape) e) (aim source shape l e) (λ p h. subst (In p) same_parts h) (subst (Stuck new shape l) copy_together s)
 
-      pub made_aim : (new : List (Option Node)) (m : Edge) → Stands new shape l (together mid shape l kids) m → Stands new shape l (aim source shape l e) m
+      made_aim : (new : List (Option Node)) (m : Edge) → Stands new shape l (together mid shape l kids) m → Stands new shape l (aim source shape l e) m
       made_aim new m st = (st.0, st.1 ∙ copy_together)
 
   -- the made edge, with the weight of the edge to the node
-  pub copy_stands : {new : List (Option Node)} → Store new shape → (m : Edge) → Stands new shape l (aim source shape l e) m → Stands new shape l (chart source (drop l shape) e) (record { weight = e.weight; child = m.child })
+  copy_stands : {new : List (Option Node)} → Store new shape → (m : Edge) → Stands new shape l (aim source shape l e) m → Stands new shape l (chart source (drop l shape) e) (record { weight = e.weight; child = m.child })
   copy_stands {new} store m st =
       let at = drop_more shape l 0 side.lt in
       let n = get_or shape l 0 in
@@ -203,7 +202,7 @@ module _ {source : List (Option Node)} {shape : Shape} {l : ℕ} {e : Edge} (sid
 
 -- Notes
 
-pub moved_kept : {source old new : List (Option Node)} {shape : Shape} {l : ℕ} {c : Chart} (moved : List (Option ℕ)) → Store old shape → Grows old new shape l c → Moved source old shape moved → Moved source new shape moved
+moved_kept : {source old new : List (Option Node)} {shape : Shape} {l : ℕ} {c : Chart} (moved : List (Option ℕ)) → Store old shape → Grows old new shape l c → Moved source old shape moved → Moved source new shape moved
 moved_kept {source} {old} {new} {shape} moved store g m k j h l e lt is f =
     let st = m k j h l e lt is f in
     let d : Edge = record { weight = e.weight; child = j } in
@@ -213,7 +212,7 @@ moved_kept {source} {old} {new} {shape} moved store g m k j h l e lt is f =
 level_of : (source : List (Option Node)) (shape : Shape) (l : ℕ) (e : Edge) → l < length shape → Fine source (drop l shape) l e → (node_at source e.child).level ≡ l
 level_of source shape l e lt f = (subst (λ t. Fine source t l e) (drop_more shape l 0 lt) f).deep
 
-pub moved_noted : {source nodes : List (Option Node)} {shape : Shape} (before after : List (Option ℕ)) {l : ℕ} {e : Edge} (m : Edge) → Side source shape l e → Store nodes shape → Moved source nodes shape before → Stands nodes shape l (aim source shape l e) m → Noted before after e.child m.child → Moved source nodes shape after
+moved_noted : {source nodes : List (Option Node)} {shape : Shape} (before after : List (Option ℕ)) {l : ℕ} {e : Edge} (m : Edge) → Side source shape l e → Store nodes shape → Moved source nodes shape before → Stands nodes shape l (aim source shape l e) m → Noted before after e.child m.child → Moved source nodes shape after
 moved_noted {source} {nodes} {shape} before after {l} {e} m side store old st noted k j h k' d lt is f = elim (noted k j h) [ inl q ↦ old k j q k' d lt is f | inr q ↦ go q.0 q.1 ]
   where
     go : k ≡ e.child → j ≡ m.child → Stands nodes shape k' (chart source (drop k' shape) d) (record { weight = d.weight; child = j })
@@ -230,5 +229,73 @@ noted_set old i j il k m h = elim (cases_eq k i) [
   | inr n ↦ inl (sym (get_or-set_other old i k (Some j) None n) ∙ h)
 ]
 
-pub moved_none : (source nodes : List (Option Node)) (shape : Shape) (moved : List (Option ℕ)) → Empty moved → Moved source nodes shape moved
-moved_none source nodes shape moved empty k j h = absurd (let e = empty k in let z : ◌≡◌ {A = ℕ} 0 1 = cc in omega arith)
+-- Stores
+
+-- the first i kids of the node that an edge leads to are copied
+pub record Filled (source first spare : NodeStore) (moved : List (Option ℕ)) (l : ℕ) (e : Edge) (i : ℕ) (kids : List Edge) : Type 0 where
+  pub alike : shape_in source ≡ shape_in spare
+  pub way : Partway (nodes_in first) (nodes_in spare) (shape_in source) l (aim (nodes_in source) (shape_in source) l e) i kids
+  pub noted : Moved (nodes_in source) (nodes_in spare) (shape_in source) moved
+
+-- what is said of a store over its own shape, over that of another with the same, and back
+module _ (source spare : NodeStore) (alike : shape_in source ≡ shape_in spare) where
+  pub ready_over : Ready (nodes_in spare) (shape_in source)
+  ready_over = subst (Ready (nodes_in spare)) (sym alike) spare.ready
+
+  pub grows_over : (new : NodeStore) (l : ℕ) (c : Chart) → Grew spare new l c → Grows (nodes_in spare) (nodes_in new) (shape_in source) l c
+  grows_over new l c g = subst (λ s. Grows (nodes_in spare) (nodes_in new) s l c) (sym alike) g.grows
+
+  pub grew_over : (new : NodeStore) (l : ℕ) (c : Chart) → shape_in source ≡ shape_in new → Grows (nodes_in spare) (nodes_in new) (shape_in source) l c → Grew spare new l c
+  grew_over new l c still g = record { same = sym still ∙ alike; grows = subst (λ s. Grows (nodes_in spare) (nodes_in new) s l c) alike g }
+
+module _ {source first spare : NodeStore} {moved : List (Option ℕ)} {l : ℕ} {e : Edge} {i : ℕ} {kids : List Edge} (start : shape_in source ≡ shape_in first) (side : Side (nodes_in source) (shape_in source) l e) (f : Filled source first spare moved l e i kids) where
+  abbrev shape : Shape
+  shape = shape_in source
+
+  abbrev whole : Chart
+  whole = chart (nodes_in source) (drop l shape) e
+
+  -- the next kid
+  module _ {kid : Edge} (item : Item (nodes_in source) shape l e i kid) {new : NodeStore} (g : Grew spare new (l + 1) (chart (nodes_in source) (drop (l + 1) shape) kid)) where
+    grows_here : Grows (nodes_in spare) (nodes_in new) shape (l + 1) (chart (nodes_in source) (drop (l + 1) shape) kid)
+    grows_here = grows_over source spare f.alike new (l + 1) (chart (nodes_in source) (drop (l + 1) shape) kid) g
+
+    pub filled_grew : Grew first new l whole
+    filled_grew = grew_over source first start new l whole (f.alike ∙ sym g.same) (copy_grows side (ready_over source first start) f.way item grows_here)
+
+    pub filled_stuck : Stuck (nodes_in new) shape (l + 1) (chart (nodes_in source) (drop (l + 1) shape) kid) → Stuck (nodes_in new) shape l whole
+    filled_stuck = copy_stuck side (ready_over source first start) f.way item grows_here
+
+    pub filled_more : (after : List (Option ℕ)) (d : Edge) → Stands (nodes_in new) shape (l + 1) (chart (nodes_in source) (drop (l + 1) shape) kid) d → Moved (nodes_in source) (nodes_in new) shape after → Filled source first new after l e (i + 1) (set kids i d)
+    filled_more after d st noted = record { alike = f.alike ∙ sym g.same; way = copy_more side (ready_over source first start) f.way item grows_here d st; noted = noted }
+
+  -- the node
+  module _ (all : i ≡ get_or shape l 0) where
+    pub filled_kids : Kids (nodes_in spare) (get_or (shape_in spare) l 0) (drop (l + 1) (shape_in spare)) l kids
+    filled_kids = subst (λ s. Kids (nodes_in spare) (get_or s l 0) (drop (l + 1) s) l kids) f.alike (copy_kids side (ready_over source first start) f.way all)
+
+    pub filled_timely : late (below (nodes_in source) (drop l shape) e) ≡ false → some late (together (nodes_in spare) (shape_in spare) l kids) ≡ false
+    filled_timely h = subst (λ s. some late (together (nodes_in spare) s l kids) ≡ false) f.alike (copy_timely side (ready_over source first start) f.way all h)
+
+    module _ {new : NodeStore} (g : Grew spare new l (together (nodes_in spare) (shape_in spare) l kids)) where
+      grown_here : Grows (nodes_in spare) (nodes_in new) shape l (together (nodes_in spare) shape l kids)
+      grown_here = subst (λ s. Grows (nodes_in spare) (nodes_in new) s l (together (nodes_in spare) s l kids)) (sym f.alike) g.grows
+
+      pub filled_made : Grew first new l whole
+      filled_made = grew_over source first start new l whole (f.alike ∙ sym g.same) (copy_made side (ready_over source first start) f.way all grown_here)
+
+      pub filled_full : Stuck (nodes_in new) (shape_in spare) l (together (nodes_in spare) (shape_in spare) l kids) → Stuck (nodes_in new) shape l whole
+      filled_full s = copy_full side (ready_over source first start) f.way all (subst (λ n. Stuck (nodes_in new) n l (together (nodes_in spare) n l kids)) (sym f.alike) s)
+
+      pub still_moved : Moved (nodes_in source) (nodes_in new) shape moved
+      still_moved = moved_kept moved f.way.grows.store grown_here f.noted
+
+      module _ (m : Edge) (st : Stands (nodes_in new) (shape_in spare) l (together (nodes_in spare) (shape_in spare) l kids) m) where
+        stands_here : Stands (nodes_in new) shape l (aim (nodes_in source) shape l e) m
+        stands_here = made_aim side (ready_over source first start) f.way all (nodes_in new) m (subst (λ n. Stands (nodes_in new) n l (together (nodes_in spare) n l kids) m) (sym f.alike) st)
+
+        pub filled_stands : Stands (nodes_in new) shape l whole (record { weight = e.weight; child = m.child })
+        filled_stands = copy_stands side grown_here.store m stands_here
+
+        pub filled_noted : (after : List (Option ℕ)) → Noted moved after e.child m.child → Moved (nodes_in source) (nodes_in new) shape after
+        filled_noted after noted = moved_noted moved after m side grown_here.store still_moved stands_here noted

@@ -1,13 +1,5 @@
-ghost use Rattle.std.specs.Prelude.{◌≡◌};
-ghost use Rattle.table.specs.Tables.{slot, Empty};
+ghost use Rattle.table.specs.Tables.{Empty};
 ghost use Rattle.collect.specs.Copies.{Noted};
-
-/// The slot to which the node in a slot was copied, if it was.
-pub fn moved_to(moved: &[Option<u16>], i: u16) -> Option<u16>
-    ensures { result ≡ slot moved.now i }
-{
-    moved.get(usize::from(i)).copied().flatten()
-}
 
 /// Notes to which slot the node in a slot was copied.
 pub fn note(moved: &mut [Option<u16>], i: u16, to: u16)

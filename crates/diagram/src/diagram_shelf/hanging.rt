@@ -1,7 +1,6 @@
 ghost use Rattle.std.specs.Prelude.{◌≡◌, ◌<◌};
 ghost use Rattle.model.specs.Shelves.{bare as is_bare};
 ghost use Rattle.hang.specs.Tasks.{Allowed, made};
-ghost use Rattle.shelf.specs.Shapes.{shape_of};
 ghost use Rattle.diagram.specs.Means.{means, Hung};
 
 use crate::diagram_shelf::DiagramShelf;
@@ -22,16 +21,14 @@ impl DiagramShelf {
     /// Hangs a chart on a peg, or refuses it for want of room.
     pub(crate) fn hang_task(&mut self, task: Task, target: usize) -> Result<(), ShelfFault>
         requires low { target < PEGS }
-        requires allowed { Allowed (shape_of self.old.shape) (means self.old).pegs task }
-        ensures hung { Hung (means self.old) (means self.new) target (made (shape_of self.old.shape) (means self.old).pegs task) result }
+        requires allowed { Allowed (means self.old).shape (means self.old).pegs task }
+        ensures hung { Hung (means self.old) (means self.new) target (made (means self.old).shape (means self.old).pegs task) result }
     {
         hang(
             task,
-            self.nodes.as_mut_slice(),
-            self.spare.as_mut_slice(),
+            &mut self.diagrams,
+            &mut self.spare,
             self.moved.as_mut_slice(),
-            self.memo.as_mut_slice(),
-            self.shape.settings(),
             &mut self.pegs,
             target,
         )

@@ -1,5 +1,5 @@
-use Rattle.memo.proofs.Keeps.{knows_kept}
+use Rattle.memo.proofs.Keeps.{knows_grew}
 use Rattle.hang.proofs.attempt.attempt.Goals as goal
 
-pub returns-in-Dial-clause-knows : goal.returns-in-Dial-clause-knows
-returns-in-Dial-clause-knows c = knows_kept c.args.nodes.now c.dial.new.nodes c.dial.ensures.grows.kept c.args.settings.now c.requires.held.ready.store c.args.memo.now c.requires.knows
+pub invariant_of-diagrams : goal.invariant_of-diagrams
+invariant_of-diagrams c = record { known = knows_grew _ _ _ _ _ c.args.diagrams.now.known c.dial.ensures.grew }
