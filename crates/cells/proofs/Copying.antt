@@ -1,18 +1,9 @@
 -- A run copied to each run of a block, and a row put at a setting. Assumes nothing.
 use Rattle.std.proofs.Common.{◌≡◌, ℕ, ◌+◌, ◌*◌, ◌<◌, List, get_or, None, ap, ◌∙◌, inl, inr, ⊎_elim, arith}
-use Rattle.std.proofs.lemmas.Bool.{cases_order, cases_lt}
+use Rattle.std.proofs.lemmas.Bool.{cases_lt}
 use Rattle.model.specs.Charts.{Time}
 use Rattle.cells.specs.Writes.{Outside, Apart, Written, Runs, Blocks, Source}
 use Rattle.cells.proofs.Writing.{next_row, rows_up}
-
--- the run that is copied, and each that it is copied to
-pub source_apart : (n w to from x : ℕ) → x < n → Source n w to from → Apart w from (to + x * w)
-source_apart n w to from x h (inl (d, low, e)) =
-    ⊎_elim (λ same. inl (omega (arith, ap (λ k. k * w) same)))
-    (⊎_elim (λ lt. inr (inl (omega (arith, next_row d x w lt)))) (λ lt. inr (inr (omega (arith, next_row x d w lt)))))
-    (cases_order d x)
-source_apart n w to from x h (inr side) =
-    ⊎_elim (λ before. inr (inl (omega arith))) (λ after. inr (inr (omega (arith, next_row x n w h)))) side
 
 -- what is copied in a turn is as it was
 pub source_kept : (n w to from x : ℕ) (old now : List Time) → x < n → Source n w to from → Runs x w to (λ _ r. get_or old (from + r) None) old now → (r : ℕ) → r < w → get_or now (from + r) None ≡ get_or old (from + r) None

@@ -1,7 +1,10 @@
 -- The turns of loops that write cells, runs and blocks. Assumes nothing.
-use Rattle.std.proofs.Common.{◌≡◌, ℕ, suc, ◌+◌, ◌*◌, ◌<◌, ◌≤◌, ◌≢◌, ◌⊎◌, List, length, get_or, set, None, sym, refl, ap, ◌∙◌, inl, inr, ⊎_elim, suc-mul, add-one, arith, below_more}
+use Rattle.std.proofs.Common.{◌≡◌, ℕ, suc, ◌+◌, ◌-◌, ◌*◌, ◌++◌, take, drop, replicate, ◌<◌, ◌≤◌, ◌≢◌, ◌⊎◌, List, length, get_or, set, None, sym, ap, ◌∙◌, inl, inr, ⊎_elim, suc-mul, add-one, arith, below_more}
 use Rattle.std.proofs.lemmas.Nat.{mul-le}
-use Rattle.std.proofs.lemmas.List.{get_or-set_same, get_or-set_other}
+use Rattle.std.proofs.lemmas.List.{get_or-set_same, get_or-set_other, get_or-take, get_or-drop, get_or-append-add, length-take-le, length-drop, length-replicate, get_or-replicate}
+use Rattle.std.proofs.lemmas.Slice.{take-put_mid, take-put_mid_below, drop-put_mid}
+use Rattle.std.specs.List.{CopiedTo, SameBelow, SameFrom}
+use borrow.Rule.Slice.PartMut.{put_mid}
 use Rattle.std.proofs.lemmas.Bool.{cases_eq}
 use Rattle.model.specs.Charts.{Time}
 use Rattle.cells.specs.Writes.{Outside, Apart, Written, Runs, Blocks}
@@ -20,9 +23,6 @@ one_row_more a n = ap (λ k. k * n) (add-one a) ∙ suc-mul a n
 
 -- Cells
 
-pub written_none : (base : ℕ) (f : ℕ → Time) (old : List Time) → Written 0 base f old old
-written_none base f old = record { inside = λ k h. absurd (omega arith); outside = λ k h. refl }
-
 pub written_more : (i base : ℕ) (f : ℕ → Time) (old now : List Time) (v : Time) → base + i < length now → Written i base f old now → v ≡ f i → Written (i + 1) base f old (set now (base + i) v)
 written_more i base f old now v l w e =
     record {
@@ -40,10 +40,44 @@ pub cell_kept : (n i base from : ℕ) (f : ℕ → Time) (old now : List Time) �
 cell_kept n i base from f old now apart h w =
     w.outside (from + i) (⊎_elim (λ e. inr (omega arith)) (⊎_elim (λ e. inl (omega arith)) (λ e. inr (omega arith))) apart)
 
--- Runs
+-- a part of the cells that is written as a whole
+written_part : (n base m : ℕ) (f : ℕ → Time) (old part : List Time) → base + n ≤ length old → m ≡ n → length part ≡ n → ((k : ℕ) → k < n → get_or part k None ≡ f k) → Written n base f old (put_mid base m old part)
+written_part n base m f old part l em e each =
+    let new = put_mid base m old part in
+    record {
+      inside = λ k h.
+          let front : take (base + n) new ≡ take base old ++ part = take-put_mid base m old part (base + n) (omega arith) (omega arith) in
+          let spot : base + k ≡ length (take base old) + k = omega (arith, length-take-le base old (omega arith)) in
+          sym (get_or-take (base + n) new (base + k) None (omega arith)) ∙ (λ i. get_or (front i) (spot i) None)
+          ∙ get_or-append-add (take base old) part k None ∙ each k h;
+      outside = λ k side. ⊎_elim
+          (λ lt. sym (get_or-take base new k None lt) ∙ ap (λ xs. get_or xs k None) (take-put_mid_below base m old part base (omega arith) (omega arith)) ∙ get_or-take base old k None lt)
+          (λ ge.
+          let here : k + 0 ≡ k = omega arith in
+          ap (λ i. get_or new i None) (sym here) ∙ sym (get_or-drop k new 0 None)
+          ∙ ap (λ xs. get_or xs 0 None) (drop-put_mid base m old part k (omega arith) (omega arith) (omega arith))
+          ∙ get_or-drop k old 0 None ∙ ap (λ i. get_or old i None) here)
+          side;
+    }
 
-pub runs_none : (w base : ℕ) (f : ℕ → ℕ → Time) (old : List Time) → Runs 0 w base f old old
-runs_none w base f old = record { inside = λ d r h l. absurd (omega arith); outside = λ k h. refl }
+-- a run filled with one entry
+pub written_fill : (n base m : ℕ) (v : Time) (old part : List Time) → base + n ≤ length old → m ≡ n → part ≡ replicate (length (take m (drop base old))) v → Written n base (λ _. v) old (put_mid base m old part)
+written_fill n base m v old part l em e =
+    let long : length (take m (drop base old)) ≡ n = length-take-le m (drop base old) (omega (arith, length-drop base old)) ∙ em in
+    written_part n base m _ old part l em (ap length e ∙ length-replicate _ v ∙ long)
+    (λ k h. ap (λ xs. get_or xs k None) e ∙ get_or-replicate _ k v None (omega arith))
+
+-- a run copied to another, or to itself
+pub written_copy : (n to from m : ℕ) (old new : List Time) → m ≡ n → CopiedTo old new from to m → SameBelow old new to → SameFrom old new (to + m) → Written n to (λ k. get_or old (from + k) None) old new
+written_copy n to from m old new e copied below above =
+    record {
+      inside = λ k h.
+          let spot : from + (to + k - to) ≡ from + k = omega arith in
+          copied (to + k) None (omega arith) (omega arith) ∙ ap (λ i. get_or old i None) spot;
+      outside = λ k side. ⊎_elim (λ lt. below k None lt) (λ ge. above k None (omega arith)) side;
+    }
+
+-- Runs
 
 module _ (n w base : ℕ) (f : ℕ → ℕ → Time) (old now new : List Time) (before : Runs n w base f old now) (here : Written w (base + n * w) (f n) now new) where
   run_inside : (d : ℕ) → (d < n) ⊎ (d ≡ n) → (r : ℕ) → r < w → get_or new (base + (d * w + r)) None ≡ f d r
@@ -62,9 +96,6 @@ module _ (n w base : ℕ) (f : ℕ → ℕ → Time) (old now new : List Time) (
   }
 
 -- Blocks
-
-pub blocks_none : (n w base : ℕ) (f : ℕ → ℕ → ℕ → Time) (old : List Time) → Blocks 0 n w base f old old
-blocks_none n w base f old = record { inside = λ b d r h k l. absurd (omega arith); outside = λ k h. refl }
 
 -- a place in a run lies in its block
 pub in_block : (n w d r : ℕ) → d < n → r < w → d * w + r < n * w

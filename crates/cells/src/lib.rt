@@ -1,6 +1,6 @@
 // Rows of cells, a time or never in each: joined, dialled and put by plain loops.
 #![tactic(auto)]
 
-pub mod entries;
+pub mod joins;
 pub mod rows;
 pub mod runs;

@@ -4,22 +4,17 @@ ghost use Rattle.cells.specs.Writes.{Apart, Written, Runs, Blocks, Source};
 
 use lists::limits::MOST_SETTINGS;
 
+// A row, a block and a run are named by the cell at which they begin: a put reads one row of the cells and writes
+// another or the same. Chunks of a row, lent one after another, would read better, but once such a loan is over a
+// proof knows how many cells there are and not what they hold. Dials and puts share no loop: a step passed to one
+// would need a contract of its own as long as both loops.
+
 /// How a row falls into blocks, each with a run of cells for each setting of one device.
 #[derive(Clone, Copy)]
 pub struct Strides {
     pub blocks: usize,
     pub count: usize,
     pub stride: usize,
-}
-
-/// Writes one entry into each cell of a run.
-fn fill_run(cells: &mut [Option<u64>], base: usize, n: usize, value: Option<u64>)
-    requires within { base + n ≤ length cells.old }
-    ensures run { Written n base (λ _. value) cells.old cells.new }
-{
-    for i in 0..n {
-        cells[base + i] = value;
-    }
 }
 
 /// Writes each setting's entry into its run of a block.
@@ -33,8 +28,9 @@ fn dial_block(
     requires few { strides.count ≤ most_settings }
     ensures runs { Runs strides.count strides.stride base (λ d _. slice_index_or entries.now d None) cells.old cells.new }
 {
-    for d in 0..strides.count {
-        fill_run(cells, base + d * strides.stride, strides.stride, entries[d]);
+    for (d, entry) in entries[..strides.count].iter().enumerate() {
+        let run = base + d * strides.stride;
+        cells[run..run + strides.stride].fill(*entry);
     }
 }
 
@@ -56,17 +52,6 @@ pub fn dial_row(
     }
 }
 
-/// Copies a run to another, or to itself.
-fn copy_run(cells: &mut [Option<u64>], to: usize, from: usize, n: usize)
-    requires within { (to + n ≤ length cells.old) × (from + n ≤ length cells.old) }
-    requires apart { Apart n from to }
-    ensures run { Written n to (λ k. slice_index_or cells.old (from + k) None) cells.old cells.new }
-{
-    for i in 0..n {
-        cells[to + i] = cells[from + i];
-    }
-}
-
 /// Copies one run to each run of a block.
 fn put_block(cells: &mut [Option<u64>], to: usize, from: usize, strides: Strides)
     requires within { (to + strides.count * strides.stride ≤ length cells.old) × (from + strides.stride ≤ length cells.old) }
@@ -74,7 +59,7 @@ fn put_block(cells: &mut [Option<u64>], to: usize, from: usize, strides: Strides
     ensures runs { Runs strides.count strides.stride to (λ _ r. slice_index_or cells.old (from + r) None) cells.old cells.new }
 {
     for x in 0..strides.count {
-        copy_run(cells, to + x * strides.stride, from, strides.stride);
+        cells.copy_within(from..from + strides.stride, to + x * strides.stride);
     }
 }
 

@@ -1,15 +1,18 @@
 -- The calls of a flat shelf: when they are refused, and what they leave. Assumes nothing.
 use Rattle.std.proofs.Common.{◌≡◌, ℕ, ◌<◌, ◌≤◌, Bool, true, false, ◌&&◌, ◌||◌, ltb, leb, ◌⊎◌, List, [], ◌∷◌, length, get_or, take, None, Ok, Err, sym, refl, ap, ◌∙◌, ap₂, inl, inr, arith}
 use Rattle.std.specs.List.{AllByRecursion as All}
-use Rattle.std.proofs.lemmas.Bool.{or_left, or_right, or_from, and_right, and_from, lt-leb, le-leb, lt-ltb}
+use Rattle.std.proofs.lemmas.Bool.{or_left, or_right, or_from, and_right, lt-leb, le-leb}
 use Rattle.model.specs.Lists.{some}
 use Rattle.model.specs.Scenes.{Shape, Scene, size, rank}
 use Rattle.model.specs.Charts.{Time, Chart, at, lesser, plus, zipped, dialled, put_chart, greatest, late, same_chart}
 use Rattle.model.specs.Refusals.{refuse, answer}
 use Rattle.model.specs.Shelves.{Meaning, Sound, dial, cheaper, sum, put, on, bare, high, no_room, call_checks, does, done, compares, reads, scene_checks}
-use Rattle.model.proofs.Refusing.{refuses, accepts, accepted, accepted_is, accepted_first, refused_first}
+use Rattle.model.proofs.Refusing.{refuses, accepts, accepted, accepted_is, accepted_first}
 use Rattle.model.proofs.Ranks.{rank_less, tests_scene}
 use Rattle.model.proofs.Soundness.{call_accepted, hung_legal}
+use Rattle.shelf.specs.Faults.{number}
+use Rattle.shelf.specs.declared.fault.ShelfFault.{ShelfFault}
+use Rattle.shelf.specs.declared.fault.ShelfFault.TheVariants.{PegHigh, PegBare}
 use Rattle.flat.specs.Rows.{row, flat}
 use Rattle.flat.specs.Means.{hanging}
 use Rattle.flat.specs.Hanging.{bare_at, row_on}
@@ -22,6 +25,11 @@ low_pegs l r hl hr = or_from (high l) (high r) (low_peg l hl) (low_peg r hr)
 
 pub all_low : (t l r : ℕ) → t < 8 → l < 8 → r < 8 → (high t || (high l || high r)) ≡ false
 all_low t l r ht hl hr = or_from (high t) (high l || high r) (low_peg t ht) (low_pegs l r hl hr)
+
+-- a peg number that is too high, of two
+one_high : (l r : ℕ) → (8 ≤ l) ⊎ (8 ≤ r) → (high l || high r) ≡ true
+one_high l r (inl h) = or_left (high l) (high r) (le-leb 8 l h)
+one_high l r (inr h) = or_right (high l) (high r) (le-leb 8 r h)
 
 -- the place of a scene that passes its checks
 pub placed : (ns : Shape) (s : Scene) (k : ℕ) → Ok k ≡ answer (scene_checks ns s) (rank ns s) → (k ≡ rank ns s) × (k < size ns)
@@ -98,6 +106,26 @@ module _ (ns : Shape) (cells : List Time) (hung : List Bool) where
           pub sum_legal : Sound m → some late (zipped plus (row cells (size ns) l) (row cells (size ns) r)) ≡ false
           sum_legal s = ap (some late) (sym (joined_rows plus)) ∙ hung_legal m s (sum t l r) sum_checks
 
+  -- why two pegs have no charts to be read
+  abbrev pub NoCharts : ℕ → ℕ → ShelfFault → Type 0
+  NoCharts l r f =
+      ((f ≡ PegHigh) × ((8 ≤ l) ⊎ (8 ≤ r)))
+      ⊎ ((f ≡ PegBare) × (l < 8) × (r < 8) × ((get_or hung l false ≡ false) ⊎ (get_or hung r false ≡ false)))
+
+  pub compares_refused : (l r : ℕ) (f : ShelfFault) → NoCharts l r f → compares m l r ≡ Err (number f)
+  compares_refused l r f (inl h) = rw h.0 (refuses [] 14 (high l || high r) (refuse 15 (bare m.pegs l || bare m.pegs r) ∷ []) _ tt (one_high l r h.1))
+  compares_refused l r f (inr h) = rw h.0 (compares_bare l r h.1 h.2 h.3)
+
+  pub cheaper_refused : (t l r : ℕ) (f : ShelfFault) → t < 8 → NoCharts l r f → does m (cheaper t l r) ≡ Err (number f)
+  cheaper_refused t l r f ht (inl h) =
+      rw h.0 (refuses [] 14 (high t || (high l || high r)) (refuse 15 (bare m.pegs l || bare m.pegs r) ∷ no_room m (cheaper t l r) ∷ []) tt tt (or_right (high t) (high l || high r) (one_high l r h.1)))
+  cheaper_refused t l r f ht (inr h) = rw h.0 (cheaper_bare l r h.1 h.2 t ht h.3)
+
+  pub sum_refused : (t l r : ℕ) (f : ShelfFault) → t < 8 → NoCharts l r f → does m (sum t l r) ≡ Err (number f)
+  sum_refused t l r f ht (inl h) =
+      rw h.0 (refuses [] 14 (high t || (high l || high r)) (refuse 15 (bare m.pegs l || bare m.pegs r) ∷ refuse 16 (late (plus (greatest (on m.pegs l)) (greatest (on m.pegs r)))) ∷ no_room m (sum t l r) ∷ []) tt tt (or_right (high t) (high l || high r) (one_high l r h.1)))
+  sum_refused t l r f ht (inr h) = rw h.0 (sum_bare l r h.1 h.2 t ht h.3)
+
   -- A dial
   module _ (t v : ℕ) (es : List Time) (device : v < length ns) (ht : t < 8) (timely : some late (take (get_or ns v 0) es) ≡ false) where
     dial_checks : All (λ k. k.holds ≡ false) (call_checks m (dial t v es))
@@ -108,26 +136,12 @@ module _ (ns : Shape) (cells : List Time) (hung : List Bool) where
 
   -- A put
   module _ (t a v d : ℕ) where
-    pub put_device_high : length ns ≤ v → does m (put t a v d) ≡ Err 7
-    put_device_high h =
-        refuses [] 7 (leb (length ns) v) (refuse 8 (ltb v (length ns) && leb (get_or ns v 0) d) ∷ refuse 14 (high t || high a) ∷ refuse 15 (bare m.pegs a) ∷ no_room m (put t a v d) ∷ []) tt tt (le-leb (length ns) v h)
-
     module _ (device : v < length ns) where
-      pub put_setting_high : get_or ns v 0 ≤ d → does m (put t a v d) ≡ Err 8
-      put_setting_high h =
-          refuses (refuse 7 (leb (length ns) v) ∷ []) 8 (ltb v (length ns) && leb (get_or ns v 0) d) (refuse 14 (high t || high a) ∷ refuse 15 (bare m.pegs a) ∷ no_room m (put t a v d) ∷ []) tt
-          (lt-leb (length ns) v device, tt) (and_from (ltb v (length ns)) (leb (get_or ns v 0) d) (lt-ltb v (length ns) device) (le-leb (get_or ns v 0) d h))
-
       module _ (setting : d < get_or ns v 0) where
         setting_low : (ltb v (length ns) && leb (get_or ns v 0) d) ≡ false
         setting_low = and_right (ltb v (length ns)) (leb (get_or ns v 0) d) (lt-leb (get_or ns v 0) d setting)
 
         module _ (ht : t < 8) (ha : a < 8) where
-          pub put_bare : get_or hung a false ≡ false → does m (put t a v d) ≡ Err 15
-          put_bare e =
-              refuses (refuse 7 (leb (length ns) v) ∷ refuse 8 (ltb v (length ns) && leb (get_or ns v 0) d) ∷ refuse 14 (high t || high a) ∷ []) 15 (bare m.pegs a) (no_room m (put t a v d) ∷ []) tt
-              (lt-leb (length ns) v device, (setting_low, (low_pegs t a ht ha, tt))) (bare_at ns cells hung a ha false e)
-
           module _ (ea : get_or hung a false ≡ true) where
             put_rows : put_chart ns v d (on m.pegs a) ≡ put_chart ns v d (row cells (size ns) a)
             put_rows = ap (put_chart ns v d) (row_on ns cells hung a ha ea)
@@ -146,9 +160,6 @@ module _ (ns : Shape) (cells : List Time) (hung : List Bool) where
 
   -- A read
   module _ (p : ℕ) (s : Scene) where
-    pub reads_scene_off : (n : ℕ) → Err n ≡ answer (scene_checks ns s) (rank ns s) → Err n ≡ reads m p s
-    reads_scene_off n e = sym (refused_first (scene_checks ns s) (refuse 14 (high p) ∷ refuse 15 (bare m.pegs p) ∷ []) (rank ns s) (at ns (on m.pegs p) s) n (sym e))
-
     module _ (k : ℕ) (scene : Ok k ≡ answer (scene_checks ns s) (rank ns s)) where
       pub reads_peg : reads m p s ≡ answer (refuse 14 (high p) ∷ refuse 15 (bare m.pegs p) ∷ []) (at ns (on m.pegs p) s)
       reads_peg = accepted_first (scene_checks ns s) (refuse 14 (high p) ∷ refuse 15 (bare m.pegs p) ∷ []) (rank ns s) k (at ns (on m.pegs p) s) (sym scene)

@@ -19,4 +19,5 @@ pub struct FlatShelf {
 
 pub mod calls;
 pub mod hanging;
+mod numbers;
 pub mod opening;

@@ -10,18 +10,15 @@ use Rattle.format.specs.Files.{Entry, Rising, entry, entries, listing}
 use Rattle.format.specs.Reading.{Untaken, unless_refused, adding, ListsAsTaken}
 use Rattle.format.proofs.Tables.{entries_append}
 
-refused_not : {T : Type 0} {E : Type 0} (e : E) (x : T) → ◌≡◌ {A = Result T E} (Err e) (Ok x) → ⊥
-refused_not e x q = let z : ◌≡◌ {A = ℕ} 0 1 = cc in absurd (omega arith)
-
 same_ok : (c d : Contents) → ◌≡◌ {A = Result Contents Untaken} (Ok c) (Ok d) → c ≡ d
 same_ok c d e = cc
 
 next_ok : {T : Type 0} (r : Result T ℕ) (byte : ℕ) (next : Result Contents Untaken) (c : Contents) → unless_refused r byte next ≡ Ok c → next ≡ Ok c
 next_ok (Ok x) byte next c e = e
-next_ok (Err n) byte next c e = absurd (refused_not (record { number = n; byte = byte }) c e)
+next_ok (Err n) byte next c e = cc
 
 not_high : (b : Bool) (later : Result (Unit {0}) ℕ) (byte : ℕ) (next : Result Contents Untaken) (c : Contents) → unless_refused (cond b (Err 4) later) byte next ≡ Ok c → b ≡ false
-not_high true later byte next c e = absurd (refused_not (record { number = 4; byte = byte }) c e)
+not_high true later byte next c e = cc
 not_high false later byte next c e = refl
 
 no_entries : (n k : ℕ) → entries n (replicate k None) ≡ []

@@ -1,5 +1,5 @@
 -- Remembered results, and what makes them right. Assumes nothing.
-use Rattle.std.specs.Prelude.{◌≡◌, ℕ, ◌<◌, ◌⊎◌, List, length, drop, Some, None, Option}
+use Rattle.std.specs.Prelude.{◌≡◌, ℕ, ◌<◌, ◌⊎◌, List, length, drop, Some, Option}
 use Rattle.table.specs.Tables.{slot, Table}
 use Rattle.nodes.specs.Keys.{SameKey, initial_of}
 use Rattle.nodes.specs.declared.edge.Edge.{Edge}
@@ -10,10 +10,6 @@ use Rattle.model.specs.Scenes.{Shape}
 use Rattle.store.specs.Stores.{chart, Fine}
 use Rattle.build.specs.Builds.{Stands}
 use Rattle.memo.specs.Operations.{result_chart}
-
-abbrev pub result_of : Option Remembered → Option Edge
-result_of None = None
-result_of (Some x) = Some x.result
 
 -- no entry has the key
 abbrev pub Unknown : List (Option Remembered) → Key → Type 0

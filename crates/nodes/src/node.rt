@@ -34,6 +34,7 @@ impl Entry for Node {
         *self == *other
     }
 
+    // `as` both ways, since `u64` and `usize` have no `From`; neither loses anything.
     fn start(&self, slots: usize) -> usize {
         (mix(u64::from(self.level), &self.edges) % slots as u64) as usize
     }

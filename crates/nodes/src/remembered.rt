@@ -54,6 +54,7 @@ impl Entry for Remembered {
         self.key == other.key
     }
 
+    // `as` both ways, since `u64` and `usize` have no `From`; neither loses anything.
     fn start(&self, slots: usize) -> usize {
         let edges = [self.key.left, self.key.right];
         (mix(u64::from(self.key.level), &edges) % slots as u64) as usize

@@ -3,6 +3,7 @@ use Rattle.std.proofs.Common.{◌≡◌, ℕ, zero, suc, ◌+◌, ◌*◌, min, 
 use mathlib.Core.List.{map-map, map-append}
 use Rattle.std.proofs.lemmas.Bool.{both_ways}
 use Rattle.std.proofs.lemmas.List.{take_at, drop_at, take-map, drop-map}
+use Rattle.std.proofs.lemmas.List.Folds.{flat_map-map}
 use Rattle.std.specs.List.{AllByRecursion, flat_map}
 use Rattle.model.specs.Charts.{Time, Chart, plus, lesser}
 use Rattle.model.specs.Lists.{In}
@@ -15,10 +16,6 @@ use Rattle.parts.specs.Shifts.{later, zeroed}
 map_same : {A B : Type 0} (f g : A → B) (l : List A) → ((x : A) → f x ≡ g x) → map f l ≡ map g l
 map_same f g [] h = refl
 map_same f g (x ∷ xs) h = let p = h x in let q = map_same f g xs h in λ i. p i ∷ q i
-
-pub each_map : {A B C : Type 0} (f : B → List C) (g : A → B) (l : List A) → flat_map f (map g l) ≡ flat_map (λ x. f (g x)) l
-each_map f g [] = refl
-each_map f g (x ∷ xs) = ap (λ t. f (g x) ++ t) (each_map f g xs)
 
 pub each_same : {A B : Type 0} (f g : A → List B) (l : List A) → ((x : A) → f x ≡ g x) → flat_map f l ≡ flat_map g l
 each_same f g [] h = refl
@@ -171,7 +168,7 @@ parts_later [] k v c = refl
 parts_later (s ∷ ss) k v c =
     let p = lowered_later v c in
     let q : flat_map (parts ss (k + 1)) (pieces s (size ss) (later (Some v) c)) ≡ flat_map (parts ss (k + 1)) (pieces s (size ss) c) =
-    ap (flat_map (parts ss (k + 1))) (pieces_map (plus (Some v)) s (size ss) c) ∙ each_map (parts ss (k + 1)) (later (Some v)) (pieces s (size ss) c) ∙ each_same (λ d. parts ss (k + 1) (later (Some v) d)) (parts ss (k + 1)) (pieces s (size ss) c) (parts_later ss (k + 1) v) in
+    ap (flat_map (parts ss (k + 1))) (pieces_map (plus (Some v)) s (size ss) c) ∙ flat_map-map (parts ss (k + 1)) (later (Some v)) (pieces s (size ss) c) ∙ each_same (λ d. parts ss (k + 1) (later (Some v) d)) (parts ss (k + 1)) (pieces s (size ss) c) (parts_later ss (k + 1) v) in
     λ i. record { fixed = k; chart = p i } ∷ q i
 
 pub parts_back : (ss : List ℕ) (k : ℕ) (w : Time) (c : Chart) → zeroed w ≡ least c → parts ss k (later w c) ≡ parts ss k c
@@ -183,5 +180,5 @@ pub parts_each : {A : Type 0} (f : A → Chart) (s : ℕ) (ss : List ℕ) (k : �
 parts_each f s ss k w xs n a h =
     let p = lowered_zeroed w (flat_map f xs) h in
     let q : flat_map (parts ss (k + 1)) (pieces s (size ss) (flat_map f xs)) ≡ flat_map (λ x. parts ss (k + 1) (f x)) xs =
-    ap (λ t. flat_map (parts ss (k + 1)) (pieces t (size ss) (flat_map f xs))) (sym n) ∙ ap (flat_map (parts ss (k + 1))) (pieces_each f (size ss) xs a) ∙ each_map (parts ss (k + 1)) f xs in
+    ap (λ t. flat_map (parts ss (k + 1)) (pieces t (size ss) (flat_map f xs))) (sym n) ∙ ap (flat_map (parts ss (k + 1))) (pieces_each f (size ss) xs a) ∙ flat_map-map (parts ss (k + 1)) f xs in
     parts_back (s ∷ ss) k w (flat_map f xs) h ∙ (λ i. record { fixed = k; chart = p i } ∷ q i)

@@ -1,6 +1,5 @@
 //! Planning: the quickest run of moves to a wanted scene, the first of them by its numbers.
 ghost use Rattle.std.specs.Prelude.{◌≡◌, ◌≤◌, Some};
-ghost use Rattle.model.specs.Calls.{Lawful};
 ghost use Rattle.rule.specs.Rule.{count, rule};
 ghost use Rattle.rule.specs.Running.{Fits};
 ghost use Rattle.rig.specs.Rigs.{contents};
@@ -52,7 +51,6 @@ fn best_way<S: Shelf>(
 
 /// Plans with a shelf of the rig's shape.
 fn search<S: Shelf>(rig: &Rig, shelf: &mut S, sheet: &mut [u8]) -> Result<Plan, PlanFault>
-    requires lawful { Lawful (contents rig.now) }
     requires shape { (S.meaning shelf.old).shape ≡ (contents rig.now).settings }
     ensures found { Found (contents rig.now) (S.meaning shelf.old) sheet.old result sheet.new }
     ensures left { cleared (S.meaning shelf.new) ≡ cleared (S.meaning shelf.old) }

@@ -1,7 +1,6 @@
 //! The walk along a plan: from each scene the move of the smallest number that loses no time.
 ghost use Rattle.std.specs.Prelude.{◌≡◌, ◌<◌, false, map, Some, slice_set};
 ghost use Rattle.lists.specs.Shorts.{listed};
-ghost use Rattle.model.specs.Calls.{Lawful};
 ghost use Rattle.model.specs.Charts.{at};
 ghost use Rattle.model.specs.Scenes.{SceneOf};
 ghost use Rattle.model.specs.Shelves.{on, bare};
@@ -77,7 +76,6 @@ fn next_stride<S: Shelf>(rig: &Rig, shelf: &S, point: &Point) -> Stride
 
 /// The present scene, with the time from it.
 fn beginning(rig: &Rig, time: u64) -> Point
-    requires lawful { Lawful (contents rig.now) }
     ensures scene { listed result.scene ≡ (contents rig.now).scene }
     ensures left { result.left ≡ time }
 {

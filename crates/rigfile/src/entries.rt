@@ -9,6 +9,8 @@ ghost use Rattle.rigfile.specs.Writing.{Room, Puts, surcharge_bytes, slot_bytes,
 use crate::writer::Writer;
 use moves::entry::{Move, Surcharge};
 
+// Lengths and numbers go by `as` into a byte: a list has at most 12 items, a table 255 slots, and `try_from` would ask for a
+// refusal that cannot come.
 impl Writer<'_> {
     fn surcharge(&mut self, surcharge: &Surcharge)
         requires { Room self.old (surcharge_bytes surcharge.now) }

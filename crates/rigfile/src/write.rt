@@ -9,6 +9,7 @@ use crate::sizes::*;
 use crate::writer::Writer;
 use rig::frame::Rig;
 
+// Counts and the length go by `as`: the limits of a rig keep them within a byte and two.
 impl Writer<'_> {
     /// Puts the file of a rig, which has so many bytes.
     fn rig(&mut self, rig: &Rig, total: u16)

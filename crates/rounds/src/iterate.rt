@@ -1,6 +1,5 @@
 //! Value iteration: rounds until one makes no scene cheaper.
 ghost use Rattle.std.specs.Prelude.{◌≡◌, false, Some, None, slice_index_or};
-ghost use Rattle.model.specs.Calls.{Lawful};
 ghost use Rattle.model.specs.Charts.{same_chart};
 ghost use Rattle.model.specs.Shelves.{on, bare};
 ghost use Rattle.rule.specs.Rule.{chart_after, rule};
@@ -25,7 +24,6 @@ fn settled<S: Shelf>(shelf: &S) -> bool
 
 /// Takes rounds until one makes no scene cheaper, and answers how many did.
 fn repeat_rounds<S: Shelf>(rig: &Rig, round: &mut Round<S>) -> Result<u64, PlanFault>
-    requires lawful { Lawful (contents rig.now) }
     requires shape { (S.meaning round.old.shelf.now).shape ≡ (contents rig.now).settings }
     requires first { slice_index_or (S.meaning round.old.shelf.now).pegs 0 None ≡ Some (chart_after (contents rig.now) 0) }
     ensures made { Made (S.meaning round.old.shelf.now) (rounds_after (contents rig.now) 0) result (S.meaning round.new.shelf.now) }
@@ -46,7 +44,6 @@ fn repeat_rounds<S: Shelf>(rig: &Rig, round: &mut Round<S>) -> Result<u64, PlanF
 
 /// Follows the planning rule from round 0 to the round that makes no scene cheaper.
 fn follow<S: Shelf>(rig: &Rig, round: &mut Round<S>) -> Result<u64, PlanFault>
-    requires lawful { Lawful (contents rig.now) }
     requires shape { (S.meaning round.old.shelf.now).shape ≡ (contents rig.now).settings }
     requires zeroth { round.old.number ≡ 0 }
     ensures made { Made (S.meaning round.old.shelf.now) (rule (contents rig.now)) result (S.meaning round.new.shelf.now) }
@@ -59,7 +56,6 @@ fn follow<S: Shelf>(rig: &Rig, round: &mut Round<S>) -> Result<u64, PlanFault>
 
 /// Follows the planning rule up to the round that makes no scene cheaper, and answers how many made some cheaper.
 pub fn iterate<S: Shelf>(rig: &Rig, shelf: &mut S) -> Result<u64, PlanFault>
-    requires lawful { Lawful (contents rig.now) }
     requires shape { (S.meaning shelf.old).shape ≡ (contents rig.now).settings }
     ensures made { Made (S.meaning shelf.old) (rule (contents rig.now)) result (S.meaning shelf.new) }
     ensures counted { Counted (contents rig.now) result }

@@ -1,3 +1,3 @@
 pub mod Faults
-pub mod Sides
 pub mod Shapes
+pub use Rattle.either.specs.Either

@@ -15,11 +15,7 @@ pub(crate) fn scenes(settings: &[u8]) -> usize
     ensures value { result ≡ size settings.now }
     ensures bound { result ≤ most_settings ^ most_devices }
 {
-    let mut product = 1;
-    for count in settings {
-        product *= *count as usize;
-    }
-    product
+    settings.iter().map(|count| usize::from(*count)).product()
 }
 
 /// The place of a scene among all of them, device 0 slowest.
@@ -32,11 +28,11 @@ pub(crate) fn place(settings: &[u8], scene: &[u8]) -> Result<usize, ShelfFault>
         return Err(ShelfFault::CountsOff);
     }
     let mut place = 0;
-    for i in 0..settings.len() {
-        if scene[i] >= settings[i] {
+    for (setting, count) in scene.iter().zip(settings) {
+        if setting >= count {
             return Err(ShelfFault::SettingHigh);
         }
-        place = place * settings[i] as usize + scene[i] as usize;
+        place = place * usize::from(*count) + usize::from(*setting);
     }
     Ok(place)
 }

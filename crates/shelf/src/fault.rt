@@ -5,19 +5,19 @@ ghost use Rattle.shelf.specs.Faults.{number as the_number};
 #[derive(Clone, Copy, PartialEq, Eq, Debug)]
 pub enum ShelfFault {
     /// A scene without one setting for each device.
-    CountsOff,
+    CountsOff = 1,
     /// A device number that is too high.
-    DeviceHigh,
+    DeviceHigh = 7,
     /// A setting that is too high for its device.
-    SettingHigh,
+    SettingHigh = 8,
     /// A peg number that is too high.
-    PegHigh,
+    PegHigh = 14,
     /// A peg to be read that is bare.
-    PegBare,
+    PegBare = 15,
     /// A dial entry above the greatest time, or a sum whose two charts' greatest times add to more.
-    TimeHigh,
+    TimeHigh = 16,
     /// A fill above the capacity.
-    NoRoom,
+    NoRoom = 18,
 }
 
 impl ShelfFault {
@@ -25,14 +25,6 @@ impl ShelfFault {
     pub fn number(self) -> u8
         ensures value { result ≡ the_number self }
     {
-        match self {
-            ShelfFault::CountsOff => 1,
-            ShelfFault::DeviceHigh => 7,
-            ShelfFault::SettingHigh => 8,
-            ShelfFault::PegHigh => 14,
-            ShelfFault::PegBare => 15,
-            ShelfFault::TimeHigh => 16,
-            ShelfFault::NoRoom => 18,
-        }
+        self as u8
     }
 }

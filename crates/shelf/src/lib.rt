@@ -3,7 +3,6 @@
 
 pub mod calls;
 mod counts;
-pub mod either;
 pub mod fault;
 pub mod shape;
 pub mod sides;

@@ -1,19 +1,17 @@
-ghost use Rattle.std.specs.Prelude.{◌≡◌, ◌≤◌, false, length, take};
-ghost use Rattle.model.specs.Limits.{most_devices};
+ghost use Rattle.std.specs.Prelude.{◌≡◌, false};
 ghost use Rattle.model.specs.Scenes.{shape_off, size};
+ghost use Rattle.lists.specs.Shorts.{listed};
 
 use lists::limits::MOST_DEVICES;
+use lists::short::Short;
 
 /// The number of settings of each device, each within its limits, and how many scenes that gives.
 #[derive(Clone, Copy)]
 pub struct Shape {
-    settings: [u8; MOST_DEVICES],
-    devices: usize,
+    settings: Short<u8, MOST_DEVICES>,
     scenes: usize,
-    ghost long: { length settings ≡ most_devices },
-    ghost few: { devices ≤ most_devices },
-    ghost legal: { shape_off (take devices settings) ≡ false },
-    ghost counted: { scenes ≡ size (take devices settings) },
+    ghost legal: { shape_off (listed settings) ≡ false },
+    ghost counted: { scenes ≡ size (listed settings) },
 }
 
 pub mod parts;

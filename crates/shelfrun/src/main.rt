@@ -1,11 +1,11 @@
 // Opens a flat shelf, hangs, joins, puts and reads charts on it, and prints what it read.
 #![tactic(auto)]
 
+use either::Either;
 use flat::store::FlatShelf;
 use memory::handed_back;
 use print::{chart, compared, read, said};
 use shelf::calls::Shelf;
-use shelf::sides::Either;
 use std::io;
 
 mod memory;
@@ -47,8 +47,7 @@ fn refused<S: Shelf>(rt: &HostRuntime, shelf: &mut S) -> io::Result<()> {
     said(rt, "dial a late time onto peg 0", shelf.dial(0, 0, &late))?;
     said(rt, "wipe peg 3", shelf.wipe(3))?;
     compared(rt, "pegs 2 and 3", shelf.same(2, 3))?;
-    print!(rt; "a scene of one setting")?;
-    read(rt, shelf.at(0, &[1]))?;
+    read(rt, "a scene of one setting", shelf.at(0, &[1]))?;
     chart(rt, shelf, 0)
 }
 
@@ -58,13 +57,10 @@ fn main(rt: HostRuntime) -> io::Result<()> {
     let cells = handed_back(&rt, FlatShelf::open(&[2, 2, 2], cells))?;
     match FlatShelf::open(&[2, 3], cells) {
         Ok(flat) => {
-            let mut shelf: Either<FlatShelf, FlatShelf> = Either::One(flat);
+            let mut shelf: Either<FlatShelf, FlatShelf> = Either::Left(flat);
             hang(&rt, &mut shelf)?;
             refused(&rt, &mut shelf)
         }
-        Err(unopened) => {
-            let number = unopened.fault.number();
-            println!(rt; "not opened: {number}")
-        }
+        Err(unopened) => println!(rt; "not opened: {}", unopened.fault.number()),
     }
 }

@@ -7,14 +7,13 @@ pub fn handed_back(
     rt: &HostRuntime,
     opened: Result<FlatShelf, Unopened>,
 ) -> io::Result<Vec<Option<u64>>> {
-    match opened {
-        Ok(_) => Ok(Vec::new(rt.alloc())),
-        Err(unopened) => {
-            let number = unopened.fault.number();
-            let cells = unopened.cells;
-            let count = cells.len();
-            println!(rt; "not opened: {number}, {count} cells handed back")?;
-            Ok(cells)
-        }
-    }
+    let Err(Unopened { fault, cells }) = opened else {
+        return Ok(Vec::new(rt.alloc()));
+    };
+    println!(rt;
+        "not opened: {}, {} cells handed back",
+        fault.number(),
+        cells.len()
+    )?;
+    Ok(cells)
 }

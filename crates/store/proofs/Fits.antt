@@ -7,7 +7,8 @@ use Rattle.nodes.specs.declared.node.Node.{Node}
 use Rattle.model.specs.Lists.{In}
 use Rattle.model.specs.Parts.{Part, parts, same_part}
 use Rattle.model.specs.Scenes.{Shape}
-use Rattle.parts.proofs.Pieces.{all_in, parts_each, in_each, each_in, each_map}
+use Rattle.std.proofs.lemmas.List.Folds.{flat_map-map}
+use Rattle.parts.proofs.Pieces.{all_in, parts_each, in_each, each_in}
 use Rattle.parts.proofs.Counts.{in_cast, part_lawful, room, no_room}
 use Rattle.store.specs.Stores.{node_in, node_at, chart, body, Leads, Fine, Proper, Store}
 use Rattle.store.specs.Fillings.{name_of, name, Roomy, Overfull}
@@ -57,7 +58,7 @@ module _ (nodes : List (Option Node)) (shape : Shape) where
 
 reached_all : (nodes : List (Option Node)) (shape : Shape) → Store nodes shape → (edges : List Edge) → AllByRecursion (Fine nodes shape 0) edges → (p : Part) → In p (flat_map (parts shape 0) (map (chart nodes shape) edges)) → (k : ℕ) × (k < length nodes) × (p ≡ name nodes shape k)
 reached_all nodes shape store edges fine p i =
-    let r = in_each (λ e. parts shape 0 (chart nodes shape e)) p edges (subst (In p) (each_map (parts shape 0) (chart nodes shape) edges) i) in
+    let r = in_each (λ e. parts shape 0 (chart nodes shape e)) p edges (subst (In p) (flat_map-map (parts shape 0) (chart nodes shape) edges) i) in
     reached nodes shape store shape 0 r.0 refl (all_in (Fine nodes shape 0) r.0 edges fine r.1) p r.2
 
 pub roomy : Roomy

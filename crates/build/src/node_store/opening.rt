@@ -10,13 +10,12 @@ use table::slots::clear;
 
 impl NodeStore {
     /// An empty store of nodes over a shape, in these slots.
-    pub fn of(shape: Shape, nodes: Vec<Option<Node>>) -> NodeStore
+    pub fn of(shape: Shape, mut nodes: Vec<Option<Node>>) -> NodeStore
         requires small { vec_len nodes ≤ 65536 }
         ensures empty { Empty (nodes_in result) }
         ensures size { length (nodes_in result) ≡ vec_len nodes }
         ensures shape { shape_in result ≡ shape_of shape }
     {
-        let mut nodes = nodes;
         clear(nodes.as_mut_slice());
         NodeStore { shape, nodes }
     }

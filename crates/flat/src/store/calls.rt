@@ -4,9 +4,10 @@ ghost use Rattle.shelf.specs.Shapes.{shape_of};
 ghost use Rattle.flat.specs.Hanging.{flat_sound};
 
 use crate::store::FlatShelf;
-use cells::entries::Join;
+use crate::store::numbers::peg_of;
+use cells::joins::{Lesser, Sum};
 use cells::rows::{same_rows, some_late};
-use lists::limits::{MOST_SETTINGS, PEGS};
+use lists::limits::MOST_SETTINGS;
 use shelf::calls::Shelf;
 use shelf::fault::ShelfFault;
 
@@ -22,106 +23,59 @@ impl Shelf for FlatShelf {
         device: u8,
         entries: &[Option<u64>; MOST_SETTINGS],
     ) -> Result<(), ShelfFault> {
-        let t = target as usize;
-        let v = device as usize;
-        if v >= self.shape.devices() {
-            return Err(ShelfFault::DeviceHigh);
-        }
-        if t >= PEGS {
-            return Err(ShelfFault::PegHigh);
-        }
-        let count = self.shape.count(v);
-        if some_late(&entries[0..count]) {
+        let device = self.device(device)?;
+        let target = peg_of(target)?;
+        if some_late(&entries[..self.shape.count(device)]) {
             return Err(ShelfFault::TimeHigh);
         }
-        self.hang_dial(t, v, entries);
+        self.hang_dial(target, device, entries);
         Ok(())
     }
 
     fn cheaper(&mut self, target: u8, left: u8, right: u8) -> Result<(), ShelfFault> {
-        let t = target as usize;
-        let l = left as usize;
-        let r = right as usize;
-        if t >= PEGS || l >= PEGS || r >= PEGS {
-            return Err(ShelfFault::PegHigh);
-        }
-        if !self.hung[l] || !self.hung[r] {
-            return Err(ShelfFault::PegBare);
-        }
-        self.hang_joined(t, l, r, Join::Lesser);
+        let target = peg_of(target)?;
+        let (left, right) = self.charts(left, right)?;
+        self.hang_joined::<Lesser>(target, left, right);
         Ok(())
     }
 
     fn sum(&mut self, target: u8, left: u8, right: u8) -> Result<(), ShelfFault> {
-        let t = target as usize;
-        let l = left as usize;
-        let r = right as usize;
-        if t >= PEGS || l >= PEGS || r >= PEGS {
-            return Err(ShelfFault::PegHigh);
-        }
-        if !self.hung[l] || !self.hung[r] {
-            return Err(ShelfFault::PegBare);
-        }
-        if self.sum_is_late(l, r) {
+        let target = peg_of(target)?;
+        let (left, right) = self.charts(left, right)?;
+        if self.sum_is_late(left, right) {
             return Err(ShelfFault::TimeHigh);
         }
-        self.hang_joined(t, l, r, Join::Sum);
+        self.hang_joined::<Sum>(target, left, right);
         Ok(())
     }
 
     fn put(&mut self, target: u8, source: u8, device: u8, setting: u8) -> Result<(), ShelfFault> {
-        let t = target as usize;
-        let a = source as usize;
-        let v = device as usize;
-        let d = setting as usize;
-        if v >= self.shape.devices() {
-            return Err(ShelfFault::DeviceHigh);
-        }
-        if d >= self.shape.count(v) {
+        let device = self.device(device)?;
+        let setting = usize::from(setting);
+        if setting >= self.shape.count(device) {
             return Err(ShelfFault::SettingHigh);
         }
-        if t >= PEGS || a >= PEGS {
-            return Err(ShelfFault::PegHigh);
-        }
-        if !self.hung[a] {
-            return Err(ShelfFault::PegBare);
-        }
-        self.hang_put(t, a, v, d);
+        let target = peg_of(target)?;
+        let source = self.chart(source)?;
+        self.hang_put(target, source, device, setting);
         Ok(())
     }
 
     fn wipe(&mut self, peg: u8) -> Result<(), ShelfFault> {
-        let p = peg as usize;
-        if p >= PEGS {
-            return Err(ShelfFault::PegHigh);
-        }
-        self.hung[p] = false;
+        let peg = peg_of(peg)?;
+        self.hung[peg] = false;
         Ok(())
     }
 
     fn same(&self, left: u8, right: u8) -> Result<bool, ShelfFault> {
-        let l = left as usize;
-        let r = right as usize;
-        if l >= PEGS || r >= PEGS {
-            return Err(ShelfFault::PegHigh);
-        }
-        if !self.hung[l] || !self.hung[r] {
-            return Err(ShelfFault::PegBare);
-        }
-        Ok(same_rows(self.row(l), self.row(r)))
+        let (left, right) = self.charts(left, right)?;
+        Ok(same_rows(self.row(left), self.row(right)))
     }
 
     fn at(&self, peg: u8, scene: &[u8]) -> Result<Option<u64>, ShelfFault> {
         let place = self.shape.place(scene)?;
-        let p = peg as usize;
-        if p >= PEGS {
-            return Err(ShelfFault::PegHigh);
-        }
-        if !self.hung[p] {
-            return Err(ShelfFault::PegBare);
-        }
-        let row = self.row(p);
-        Ok(row[place])
+        let peg = self.chart(peg)?;
+        Ok(self.row(peg)[place])
     }
 
     fn shape(&self) -> &[u8] {

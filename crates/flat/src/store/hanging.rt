@@ -4,14 +4,14 @@ ghost use Rattle.model.specs.Limits.{peg_count};
 ghost use Rattle.model.specs.Lists.{some};
 ghost use Rattle.model.specs.Scenes.{size};
 ghost use Rattle.shelf.specs.Shapes.{shape_of};
-ghost use Rattle.cells.specs.Joins.{joins};
 ghost use Rattle.flat.specs.Means.{means, row_of, hanging};
 
 use crate::store::FlatShelf;
-use cells::entries::{Join, sum_is_late};
+use cells::joins::Join;
 use cells::rows::{greatest, join_rows};
 use cells::runs::{Strides, dial_row, put_row};
 use lists::limits::MOST_SETTINGS;
+use times::sum_is_late;
 
 impl FlatShelf {
     /// The row of cells of a peg.
@@ -48,20 +48,14 @@ impl FlatShelf {
     }
 
     /// Hangs two rows joined.
-    pub(crate) fn hang_joined(&mut self, target: usize, left: usize, right: usize, how: Join)
+    pub(crate) fn hang_joined<J: Join>(&mut self, target: usize, left: usize, right: usize)
         requires low { (target < peg_count) × ((left < peg_count) × (right < peg_count)) }
-        requires legal { some late (zipped (joins how) (row_of self.old left) (row_of self.old right)) ≡ false }
-        ensures hung { means self.new ≡ hanging (means self.old) target (zipped (joins how) (row_of self.old left) (row_of self.old right)) }
+        requires legal { some late (zipped J.Join.joins (row_of self.old left) (row_of self.old right)) ≡ false }
+        ensures hung { means self.new ≡ hanging (means self.old) target (zipped J.Join.joins (row_of self.old left) (row_of self.old right)) }
     {
         let n = self.shape.scenes();
-        join_rows(
-            self.cells.as_mut_slice(),
-            n,
-            target * n,
-            left * n,
-            right * n,
-            how,
-        );
+        let cells = self.cells.as_mut_slice();
+        join_rows::<J>(cells, n, target * n, left * n, right * n);
         self.hung[target] = true;
     }
 

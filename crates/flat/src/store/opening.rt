@@ -1,4 +1,6 @@
-ghost use Rattle.std.specs.Prelude.{◌≡◌};
+ghost use Rattle.std.specs.Prelude.{◌≡◌, MatchResult};
+ghost use Rattle.model.specs.Shelves.{flat_opens};
+ghost use Rattle.shelf.specs.Shapes.{shape_of};
 ghost use Rattle.flat.specs.Openings.{number as the_number, Opened};
 
 use crate::store::FlatShelf;
@@ -9,9 +11,9 @@ use shelf::shape::Shape;
 #[derive(Clone, Copy, PartialEq, Eq, Debug)]
 pub enum OpenFault {
     /// The number of devices, or of settings of one, is outside its limits.
-    CountsOff,
+    CountsOff = 1,
     /// The memory has no cell for each scene and peg.
-    MemoryShort,
+    MemoryShort = 3,
 }
 
 impl OpenFault {
@@ -19,10 +21,7 @@ impl OpenFault {
     pub fn number(self) -> u8
         ensures value { result ≡ the_number self }
     {
-        match self {
-            OpenFault::CountsOff => 1,
-            OpenFault::MemoryShort => 3,
-        }
+        self as u8
     }
 }
 
@@ -33,27 +32,29 @@ pub struct Unopened {
     pub cells: Vec<Option<u64>>,
 }
 
+/// The shape with these counts of settings, where so many cells are enough for it.
+fn fitting(settings: &[u8], cells: usize) -> Result<Shape, OpenFault>
+    ensures { MatchResult result (λ s. (flat_opens settings.now cells ≡ Ok tt) × (shape_of s ≡ settings.now)) (λ f. flat_opens settings.now cells ≡ Err (the_number f)) }
+{
+    let shape = Shape::of(settings).ok_or(OpenFault::CountsOff)?;
+    if cells < PEGS * shape.scenes() {
+        return Err(OpenFault::MemoryShort);
+    }
+    Ok(shape)
+}
+
 impl FlatShelf {
     /// A shelf of the shape with every peg bare, in the memory handed over.
     pub fn open(settings: &[u8], cells: Vec<Option<u64>>) -> Result<FlatShelf, Unopened>
         ensures answer { Opened settings.now cells result }
     {
-        let Some(shape) = Shape::of(settings) else {
-            return Err(Unopened {
-                fault: OpenFault::CountsOff,
+        match fitting(settings, cells.len()) {
+            Ok(shape) => Ok(FlatShelf {
+                shape,
                 cells,
-            });
-        };
-        if cells.len() < PEGS * shape.scenes() {
-            return Err(Unopened {
-                fault: OpenFault::MemoryShort,
-                cells,
-            });
+                hung: [false; PEGS],
+            }),
+            Err(fault) => Err(Unopened { fault, cells }),
         }
-        Ok(FlatShelf {
-            shape,
-            cells,
-            hung: [false; PEGS],
-        })
     }
 }

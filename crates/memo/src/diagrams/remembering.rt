@@ -13,11 +13,10 @@ use table::slots::clear;
 
 impl Diagrams {
     /// The diagrams of a store; nothing is remembered yet.
-    pub fn of(store: NodeStore, memo: Vec<Option<Remembered>>) -> Diagrams
+    pub fn of(store: NodeStore, mut memo: Vec<Option<Remembered>>) -> Diagrams
         ensures store { result.store ≡ store }
         ensures empty { Empty result.memo.items }
     {
-        let mut memo = memo;
         clear(memo.as_mut_slice());
         Diagrams { store, memo }
     }

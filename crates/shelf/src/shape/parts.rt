@@ -10,19 +10,7 @@ use crate::counts::{place, scenes};
 use crate::fault::ShelfFault;
 use crate::shape::Shape;
 use lists::counts::shape_off;
-use lists::limits::MOST_DEVICES;
-
-/// The counts at the front of an array.
-fn padded(settings: &[u8]) -> [u8; MOST_DEVICES]
-    requires few { length settings.now ≤ most_devices }
-    ensures front { take (length settings.now) result ≡ settings.now }
-{
-    let mut all = [0; MOST_DEVICES];
-    for i in 0..settings.len() {
-        all[i] = settings[i];
-    }
-    all
-}
+use lists::short::Short;
 
 impl Shape {
     /// The shape with these counts of settings, or none if one of them is outside its limits.
@@ -32,11 +20,9 @@ impl Shape {
         if shape_off(settings) {
             return None;
         }
-        let scenes = scenes(settings);
         Some(Shape {
-            settings: padded(settings),
-            devices: settings.len(),
-            scenes,
+            settings: Short::of(settings, 0)?,
+            scenes: scenes(settings),
         })
     }
 
@@ -44,15 +30,14 @@ impl Shape {
     pub fn settings(&self) -> &[u8]
         ensures value { result.now ≡ shape_of self.now }
     {
-        let all = &self.settings[..];
-        &all[0..self.devices]
+        self.settings.as_slice()
     }
 
     /// How many devices there are.
     pub fn devices(&self) -> usize
         ensures value { result ≡ length (shape_of self.now) }
     {
-        self.devices
+        self.settings().len()
     }
 
     /// How many settings a device has.
@@ -61,8 +46,7 @@ impl Shape {
         ensures value { result ≡ slice_index (shape_of self.now) device }
         ensures bound { result ≤ most_settings }
     {
-        let settings = self.settings();
-        settings[device] as usize
+        usize::from(self.settings()[device])
     }
 
     /// How many scenes there are.
@@ -85,8 +69,7 @@ impl Shape {
         requires low { device < length (shape_of self.now) }
         ensures value { result ≡ size (take device (shape_of self.now)) }
     {
-        let settings = self.settings();
-        scenes(&settings[0..device])
+        scenes(&self.settings()[..device])
     }
 
     /// How many scenes the devices after one have.
@@ -94,7 +77,6 @@ impl Shape {
         requires low { device < length (shape_of self.now) }
         ensures value { result ≡ size (drop (device + 1) (shape_of self.now)) }
     {
-        let settings = self.settings();
-        scenes(&settings[device + 1..])
+        scenes(&self.settings()[device + 1..])
     }
 }

@@ -1,13 +1,9 @@
 use Rattle.std.proofs.Common.{◌<◌, length, sym, ap, ◌∙◌, arith}
-use Rattle.std.proofs.lemmas.List.{drop_more, drop_all}
+use Rattle.std.proofs.lemmas.List.{drop_more}
 use Rattle.nodes.specs.declared.node.Node.{Node}
 use Rattle.model.specs.Scenes.{Shape}
 use Rattle.store.specs.Stores.{below}
 use Rattle.build.proofs.reach.below.Goals as goal
-
-pub returns-then-level-settings : goal.returns-then-level-settings
-returns-then-level-settings c =
-    sym (ap (λ (t : Shape). below c.args.nodes.now t c.args.e) (drop_all c.args.level c.args.settings.now (omega (arith, c.if-level-settings.true))))
 
 pub returns-else-level-settings : goal.returns-else-level-settings
 returns-else-level-settings c =

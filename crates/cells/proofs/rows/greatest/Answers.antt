@@ -1,9 +1,12 @@
-use Rattle.cells.proofs.Reading.{greatest_more, greatest_all}
+use Rattle.std.proofs.Common.{ap, ◌∙◌}
+use Rattle.std.specs.Option.{option_flatten}
+use Rattle.std.proofs.lemmas.Iterator.{YieldsList-from_slice}
+use Rattle.std.proofs.lemmas.Iterator.Consumers.{YieldsList-from_copied, reduce_from_yields_List}
+use Rattle.cells.proofs.Reading.{later, latest_is_greatest}
 use Rattle.cells.proofs.rows.greatest.Goals as goal
 
-pub loop-time-preserved : goal.loop-time-preserved
-loop-time-preserved c =
-    greatest_more c.args.row.now c.loop-time.time-index c.loop-time.most c.greater-most.result c.loop-time-test.true c.greater-most.ensures.value c.loop-time.invariant
-
 pub returns : goal.returns
-returns c = record { value = greatest_all c.args.row.now c.loop-time.time-index c.loop-time.most c.loop-time-test.false c.loop-time.invariant }
+returns c =
+    let row = c.args.row.now in
+    let most = reduce_from_yields_List later c.copied.result c.max.result c.max.ensures.ran (YieldsList-from_copied (YieldsList-from_slice row cc)) in
+    record { value = c.flatten.ensures ∙ ap option_flatten most ∙ latest_is_greatest row }

@@ -1,15 +1,11 @@
-use Rattle.std.proofs.Common.{None, sym}
+use Rattle.std.proofs.Common.{◌∙◌, rules, tests}
+use Rattle.std.proofs.lemmas.Iterator.{YieldsList-from_slice}
+use Rattle.std.proofs.lemmas.Iterator.Search.{any_from_yields_List}
 use Rattle.model.specs.Charts.{late}
-use Rattle.model.proofs.Testing.{some_here, some_on, some_end}
+use Rattle.cells.proofs.Reading.{some_is_any}
 use Rattle.cells.proofs.rows.some_late.Goals as goal
 
-pub returns-then-is_late : goal.returns-then-is_late
-returns-then-is_late c =
-    record { value = sym (some_here late c.args.entries.now c.loop-time.time-index c.loop-time.invariant None c.loop-time-test.true (sym c.if-is_late.ensures.value)) }
-
-pub loop-time-preserved : goal.loop-time-preserved
-loop-time-preserved c =
-    some_on late c.args.entries.now c.loop-time.time-index c.loop-time.invariant None c.loop-time-test.true (sym c.if-is_late.ensures.value)
-
 pub returns : goal.returns
-returns c = record { value = sym (some_end late c.args.entries.now c.loop-time.time-index c.loop-time.invariant c.loop-time-test.false) }
+returns c =
+    let entries = c.args.entries.now in
+    record { value = any_from_yields_List late _ _ _ c.any.ensures.ran (YieldsList-from_slice entries cc) (λ x b q k. search (rules, tests)) ∙ some_is_any late entries }

@@ -16,8 +16,8 @@ returns-in_err-rounds g c =
     let long = (g.met.S.Shelf.sound c.args.shelf.now).eight in
     let n = g.S.Shelf.meaning c.iterate.new.shelf in
     record {
-      found = stop_found rig c.requires.lawful m c.requires.shape long n c.args.sheet.now c.in_err-rounds.field-0.0 c.from_residual.result c.from_residual.ensures.1 c.in_err-rounds.ensures.made;
-      left = any_cleared rig c.requires.lawful m c.requires.shape long n c.iterate.result c.iterate.ensures.made;
+      found = stop_found rig c.args.rig.now.lawful m c.requires.shape long n c.args.sheet.now c.in_err-rounds.field-0.0 c.from_residual.result c.from_residual.ensures.1 c.in_err-rounds.ensures.made;
+      left = any_cleared rig c.args.rig.now.lawful m c.requires.shape long n c.iterate.result c.iterate.ensures.made;
     }
 
 pub time_from-requires : goal.time_from-requires
@@ -26,8 +26,8 @@ time_from-requires g c =
     let m = g.S.Shelf.meaning c.args.shelf.now in
     let long = (g.met.S.Shelf.sound c.args.shelf.now).eight in
     let n = g.S.Shelf.meaning c.iterate.new.shelf in
-    let k = ready rig c.requires.lawful m c.requires.shape long n c.in_ok-rounds.ensures.made in
-    let present : SceneOf rig.settings rig.scene = (contents_told rig c.requires.lawful).present in
+    let k = ready rig c.args.rig.now.lawful m c.requires.shape long n c.in_ok-rounds.ensures.made in
+    let present : SceneOf rig.settings rig.scene = (contents_told rig c.args.rig.now.lawful).present in
     record { hung = k.hung; within = subst (λ s. SceneOf n.shape s) (sym c.scene.ensures) (subst (λ ns. SceneOf ns rig.scene) (sym k.shape) present) }
 
 pub best_way-requires : goal.best_way-requires
@@ -36,7 +36,7 @@ best_way-requires g c =
     let m = g.S.Shelf.meaning c.args.shelf.now in
     let long = (g.met.S.Shelf.sound c.args.shelf.now).eight in
     let n = g.S.Shelf.meaning c.iterate.new.shelf in
-    let k = ready rig c.requires.lawful m c.requires.shape long n c.in_ok-rounds.ensures.made in
+    let k = ready rig c.args.rig.now.lawful m c.requires.shape long n c.in_ok-rounds.ensures.made in
     record { ready = k; timed = first_peg_is rig n k c.scene.result.now rig.scene (Some c.in-Some.time) c.scene.ensures c.in-Some.ensures.value }
 
 pub returns-in-Some : goal.returns-in-Some
@@ -47,8 +47,8 @@ returns-in-Some g c =
     let n = g.S.Shelf.meaning c.iterate.new.shelf in
     let made = c.in_ok-rounds.ensures.made in
     record {
-      found = fills_found rig m c.in-Some.time c.in_ok-rounds.rounds c.args.sheet.now c.best_way.new.sheet c.best_way.result (rule_fits rig c.requires.lawful m c.requires.shape long n made) c.in_ok-rounds.ensures.counted c.best_way.ensures.filled;
-      left = left_cleared rig c.requires.lawful m c.requires.shape long n made.1;
+      found = fills_found rig m c.in-Some.time c.in_ok-rounds.rounds c.args.sheet.now c.best_way.new.sheet c.best_way.result (rule_fits rig c.args.rig.now.lawful m c.requires.shape long n made) c.in_ok-rounds.ensures.counted c.best_way.ensures.filled;
+      left = left_cleared rig c.args.rig.now.lawful m c.requires.shape long n made.1;
     }
 
 pub returns-in-None : goal.returns-in-None
@@ -58,9 +58,9 @@ returns-in-None g c =
     let long = (g.met.S.Shelf.sound c.args.shelf.now).eight in
     let n = g.S.Shelf.meaning c.iterate.new.shelf in
     let made = c.in_ok-rounds.ensures.made in
-    let k = ready rig c.requires.lawful m c.requires.shape long n made in
+    let k = ready rig c.args.rig.now.lawful m c.requires.shape long n made in
     let none = first_peg_is rig n k c.scene.result.now rig.scene None c.scene.ensures c.in-None.ensures.value in
     record {
-      found = (rule_fits rig c.requires.lawful m c.requires.shape long n made, c.in_ok-rounds.ensures.counted, (never_none rig c.requires.lawful (first_peg rig n) k.right).0 none, refl);
-      left = left_cleared rig c.requires.lawful m c.requires.shape long n made.1;
+      found = (rule_fits rig c.args.rig.now.lawful m c.requires.shape long n made, c.in_ok-rounds.ensures.counted, (never_none rig c.args.rig.now.lawful (first_peg rig n) k.right).0 none, refl);
+      left = left_cleared rig c.args.rig.now.lawful m c.requires.shape long n made.1;
     }

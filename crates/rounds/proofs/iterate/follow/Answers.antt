@@ -22,7 +22,7 @@ repeat_rounds-requires-clause-first g c =
     let m = g.S.Shelf.meaning c.args.round.now.shelf.now in
     let k = g.S.Shelf.meaning c.before_rounds.new.round.shelf.now in
     let h = rw c.requires.zeroth at (c.in_ok-before_rounds.ensures.took.ended None) in
-    zeroth_first (contents c.args.rig.now) m c.masks.result.now c.masks.ensures k h c.requires.lawful c.requires.shape (g.met.S.Shelf.sound c.args.round.now.shelf.now).eight
+    zeroth_first (contents c.args.rig.now) m c.masks.result.now c.masks.ensures k h c.args.rig.now.lawful c.requires.shape (g.met.S.Shelf.sound c.args.round.now.shelf.now).eight
 
 pub returns-clause-made : goal.returns-clause-made
 returns-clause-made g c =

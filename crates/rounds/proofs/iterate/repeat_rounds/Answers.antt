@@ -6,10 +6,10 @@ use Rattle.rounds.proofs.Going.{count_small, round_broken, hung_both, counted, r
 use Rattle.rounds.proofs.iterate.repeat_rounds.Goals as goal
 
 pub overflow_add-round : goal.overflow_add-round
-overflow_add-round g c = omega (arith, c.loop-round.invariant.going.few, count_small (contents c.args.rig.now) c.requires.lawful)
+overflow_add-round g c = omega (arith, c.loop-round.invariant.going.few, count_small (contents c.args.rig.now) c.args.rig.now.lawful)
 
 pub overflow_add-changed : goal.overflow_add-changed
-overflow_add-changed g c = omega (arith, c.loop-round.invariant.going.few, count_small (contents c.args.rig.now) c.requires.lawful)
+overflow_add-changed g c = omega (arith, c.loop-round.invariant.going.few, count_small (contents c.args.rig.now) c.args.rig.now.lawful)
 
 pub returns-in_err-one_round-clause-made : goal.returns-in_err-one_round-clause-made
 returns-in_err-one_round-clause-made g c =
@@ -18,7 +18,7 @@ returns-in_err-one_round-clause-made g c =
     let slots = map slot_of c.slots.result.now in
     let n = c.loop-round.changed in
     let k = g.S.Shelf.meaning c.one_round.new.round.shelf.now in
-    round_broken rig c.requires.lawful long n c.loop-round.invariant.going slots c.slots.ensures k c.in_err-one_round.field-0.0 c.from_residual.result c.from_residual.ensures.1 c.in_err-one_round.ensures.made
+    round_broken rig c.args.rig.now.lawful long n c.loop-round.invariant.going slots c.slots.ensures k c.in_err-one_round.field-0.0 c.from_residual.result c.from_residual.ensures.1 c.in_err-one_round.ensures.made
 
 pub settled-requires-clause-first : goal.settled-requires-clause-first
 settled-requires-clause-first g c =
@@ -27,7 +27,7 @@ settled-requires-clause-first g c =
     let slots = map slot_of c.slots.result.now in
     let n = c.loop-round.changed in
     let k = g.S.Shelf.meaning c.one_round.new.round.shelf.now in
-    (hung_both rig c.requires.lawful long n c.loop-round.invariant.going slots c.slots.ensures k c.in_ok-one_round.ensures.made).0
+    (hung_both rig c.args.rig.now.lawful long n c.loop-round.invariant.going slots c.slots.ensures k c.in_ok-one_round.ensures.made).0
 
 pub settled-requires-clause-second : goal.settled-requires-clause-second
 settled-requires-clause-second g c =
@@ -36,7 +36,7 @@ settled-requires-clause-second g c =
     let slots = map slot_of c.slots.result.now in
     let n = c.loop-round.changed in
     let k = g.S.Shelf.meaning c.one_round.new.round.shelf.now in
-    (hung_both rig c.requires.lawful long n c.loop-round.invariant.going slots c.slots.ensures k c.in_ok-one_round.ensures.made).1
+    (hung_both rig c.args.rig.now.lawful long n c.loop-round.invariant.going slots c.slots.ensures k c.in_ok-one_round.ensures.made).1
 
 pub returns-then-settled-clause-made : goal.returns-then-settled-clause-made
 returns-then-settled-clause-made g c =
@@ -45,7 +45,7 @@ returns-then-settled-clause-made g c =
     let slots = map slot_of c.slots.result.now in
     let n = c.loop-round.changed in
     let k = g.S.Shelf.meaning c.one_round.new.round.shelf.now in
-    rounds_made rig c.requires.lawful long n c.loop-round.invariant.going slots c.slots.ensures k c.in_ok-one_round.ensures.made (sym c.if-settled.ensures.value)
+    rounds_made rig c.args.rig.now.lawful long n c.loop-round.invariant.going slots c.slots.ensures k c.in_ok-one_round.ensures.made (sym c.if-settled.ensures.value)
 
 pub returns-then-settled-clause-counted : goal.returns-then-settled-clause-counted
 returns-then-settled-clause-counted g c =
@@ -54,7 +54,7 @@ returns-then-settled-clause-counted g c =
     let slots = map slot_of c.slots.result.now in
     let n = c.loop-round.changed in
     let k = g.S.Shelf.meaning c.one_round.new.round.shelf.now in
-    counted rig c.requires.lawful long n c.loop-round.invariant.going slots c.slots.ensures k c.in_ok-one_round.ensures.made (sym c.if-settled.ensures.value)
+    counted rig c.args.rig.now.lawful long n c.loop-round.invariant.going slots c.slots.ensures k c.in_ok-one_round.ensures.made (sym c.if-settled.ensures.value)
 
 pub loop-round-smaller : goal.loop-round-smaller
 loop-round-smaller g c =
@@ -63,7 +63,7 @@ loop-round-smaller g c =
     let slots = map slot_of c.slots.result.now in
     let n = c.loop-round.changed in
     let k = g.S.Shelf.meaning c.one_round.new.round.shelf.now in
-    let below : n < count rig = below_count rig c.requires.lawful long n c.loop-round.invariant.going slots c.slots.ensures k c.in_ok-one_round.ensures.made (sym c.if-settled.ensures.value) in
+    let below : n < count rig = below_count rig c.args.rig.now.lawful long n c.loop-round.invariant.going slots c.slots.ensures k c.in_ok-one_round.ensures.made (sym c.if-settled.ensures.value) in
     omega arith
 
 pub loop-round-preserved : goal.loop-round-preserved
@@ -75,7 +75,7 @@ loop-round-preserved g c =
     let k = g.S.Shelf.meaning c.one_round.new.round.shelf.now in
     let copied = rw c.one_round.ensures.number at (c.in_ok-cheaper.ensures.took.ended None) in
     record {
-      going = going_on rig c.requires.lawful long n c.loop-round.invariant.going slots c.slots.ensures k c.in_ok-one_round.ensures.made (sym c.if-settled.ensures.value) (g.S.Shelf.meaning c.cheaper.new.self.shelf.now) (g.met.S.Shelf.sound c.one_round.new.round.shelf.now).eight copied;
+      going = going_on rig c.args.rig.now.lawful long n c.loop-round.invariant.going slots c.slots.ensures k c.in_ok-one_round.ensures.made (sym c.if-settled.ensures.value) (g.S.Shelf.meaning c.cheaper.new.self.shelf.now) (g.met.S.Shelf.sound c.one_round.new.round.shelf.now).eight copied;
       same_shelf = c.cheaper.ensures.took.shelf ∙ c.one_round.ensures.same_shelf ∙ c.loop-round.invariant.same_shelf;
     }
 
@@ -87,4 +87,4 @@ returns-in_err-cheaper-clause-made g c =
     let n = c.loop-round.changed in
     let k = g.S.Shelf.meaning c.one_round.new.round.shelf.now in
     let copied = rw c.one_round.ensures.number at (c.in_err-cheaper.ensures.took.ended None) in
-    copy_broken rig c.requires.lawful long n c.loop-round.invariant.going slots c.slots.ensures k c.in_ok-one_round.ensures.made (sym c.if-settled.ensures.value) (g.S.Shelf.meaning c.cheaper.new.self.shelf.now) c.in_err-cheaper.field-0.0 c.from_residual-in_err-cheaper.result c.from_residual-in_err-cheaper.ensures.1 copied
+    copy_broken rig c.args.rig.now.lawful long n c.loop-round.invariant.going slots c.slots.ensures k c.in_ok-one_round.ensures.made (sym c.if-settled.ensures.value) (g.S.Shelf.meaning c.cheaper.new.self.shelf.now) c.in_err-cheaper.field-0.0 c.from_residual-in_err-cheaper.result c.from_residual-in_err-cheaper.ensures.1 copied

@@ -1,9 +1,6 @@
-use Rattle.std.proofs.Common.{refl, inl, inr, arith}
+use Rattle.std.proofs.Common.{inr, arith}
 use Rattle.table.proofs.Rings.{put_here, put_others, put_kept, put_length}
 use Rattle.table.proofs.slots.intern.Goals as goal
-
-pub returns-in-At : goal.returns-in-At
-returns-in-At g c = record { table = c.requires; kept = λ k x p. p; interned = (c.in-At.ensures, inl refl) }
 
 pub returns-in-Free : goal.returns-in-Free
 returns-in-Free g c =

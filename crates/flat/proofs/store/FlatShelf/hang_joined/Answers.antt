@@ -3,34 +3,33 @@ use Rattle.std.proofs.lemmas.List.{with_items_is}
 use Rattle.model.specs.Lists.{some}
 use Rattle.model.specs.Charts.{Time, late, zipped}
 use Rattle.shelf.specs.Shapes.{shape_of}
-use Rattle.cells.specs.Joins.{joins}
 use Rattle.flat.specs.Rows.{row, flat, Timely}
 use Rattle.flat.specs.Rowing.{within_row, apart_rows, joined_legal, joined_left}
 use Rattle.flat.specs.Hanging.{flat_hung, timely_hung}
 use Rattle.flat.proofs.store.FlatShelf.hang_joined.Goals as goal
 
 pub join_rows-requires : goal.join_rows-requires
-join_rows-requires c =
+join_rows-requires g c =
     let s = c.args.self.now in
     let n = c.scenes-n.result in
     let low = c.requires.low in
-    let cells = c.as_mut_slice.result.now in
-    let room : 8 * n ≤ length cells = omega (arith, s.room, c.scenes-n.ensures.value, c.as_mut_slice.ensures.len) in
+    let cells = c.as_mut_slice-cells.result.now in
+    let room : 8 * n ≤ length cells = omega (arith, s.room, c.scenes-n.ensures.value, c.as_mut_slice-cells.ensures.len) in
     record {
       within = (within_row c.args.target n _ low.0 room, (within_row c.args.left n _ low.1.0 room, within_row c.args.right n _ low.1.1 room));
       apart = (apart_rows n c.args.left c.args.target, apart_rows n c.args.right c.args.target);
-      timely = joined_legal n cells (joins c.args.how) c.args.left c.args.right low.1.0 low.1.1 room
-          ((λ i. some late (zipped (joins c.args.how) (row (c.as_mut_slice.ensures.value i) (c.scenes-n.ensures.value i) c.args.left) (row (c.as_mut_slice.ensures.value i) (c.scenes-n.ensures.value i) c.args.right))) ∙ c.requires.legal);
+      timely = joined_legal n cells g.J.Join.joins c.args.left c.args.right low.1.0 low.1.1 room
+          ((λ i. some late (zipped g.J.Join.joins (row (c.as_mut_slice-cells.ensures.value i) (c.scenes-n.ensures.value i) c.args.left) (row (c.as_mut_slice-cells.ensures.value i) (c.scenes-n.ensures.value i) c.args.right))) ∙ c.requires.legal);
     }
 
 pub invariant_of-self : goal.invariant_of-self
-invariant_of-self c =
+invariant_of-self g c =
     let s = c.args.self.now in
     let ns = shape_of s.shape in
     let new = c.join_rows.new.cells in
     let len : length new ≡ vec_len s.cells = search rules in
     let eight : length s.hung ≡ 8 = search rules in
-    let w = joined_left ns c.scenes-n.result c.args.target (vec_items s.cells) c.as_mut_slice.result.now new c.scenes-n.ensures.value c.as_mut_slice.ensures.value c.requires.low.0 (omega (arith, s.room, s.cells.ok.0)) (omega (arith, len, s.cells.ok.0)) (joins c.args.how) c.args.left c.args.right c.requires.low.1.0 c.requires.low.1.1 c.join_rows.ensures.row in
+    let w = joined_left ns c.scenes-n.result c.args.target (vec_items s.cells) c.as_mut_slice-cells.result.now new c.scenes-n.ensures.value c.as_mut_slice-cells.ensures.value c.requires.low.0 (omega (arith, s.room, s.cells.ok.0)) (omega (arith, len, s.cells.ok.0)) g.J.Join.joins c.args.left c.args.right c.requires.low.1.0 c.requires.low.1.1 c.join_rows.ensures.row in
     record {
       room = s.room;
       timely =
@@ -39,13 +38,13 @@ invariant_of-self c =
     }
 
 pub returns : goal.returns
-returns c =
+returns g c =
     let s = c.args.self.now in
     let ns = shape_of s.shape in
     let new = c.join_rows.new.cells in
     let len : length new ≡ vec_len s.cells = search rules in
     let eight : length s.hung ≡ 8 = search rules in
-    let w = joined_left ns c.scenes-n.result c.args.target (vec_items s.cells) c.as_mut_slice.result.now new c.scenes-n.ensures.value c.as_mut_slice.ensures.value c.requires.low.0 (omega (arith, s.room, s.cells.ok.0)) (omega (arith, len, s.cells.ok.0)) (joins c.args.how) c.args.left c.args.right c.requires.low.1.0 c.requires.low.1.1 c.join_rows.ensures.row in
+    let w = joined_left ns c.scenes-n.result c.args.target (vec_items s.cells) c.as_mut_slice-cells.result.now new c.scenes-n.ensures.value c.as_mut_slice-cells.ensures.value c.requires.low.0 (omega (arith, s.room, s.cells.ok.0)) (omega (arith, len, s.cells.ok.0)) g.J.Join.joins c.args.left c.args.right c.requires.low.1.0 c.requires.low.1.1 c.join_rows.ensures.row in
     record {
       hung =
           ap (λ (xs : List Time). flat ns xs (set s.hung c.args.target true)) (with_items_is s.cells new len)

@@ -1,10 +1,8 @@
-use Rattle.std.proofs.Common.{◌≡◌, ◌-◌, false, ap, ◌∙◌}
-use Rattle.model.specs.Scenes.{shape_off}
 use Rattle.model.proofs.Sizes.{legal_take}
+use Rattle.shelf.specs.Shapes.{shape_of}
 use Rattle.shelf.proofs.shape.Shape.blocks.Goals as goal
 
-pub scenes-requires : goal.scenes-requires
-scenes-requires c =
-    let legal : shape_off c.settings-settings.result.now ≡ false = ap shape_off c.settings-settings.ensures.value ∙ c.args.self.now.legal in
-    let p = legal_take (c.args.device - 0) c.settings-settings.result.now legal in
-    record { few = p.0; legal = p.1 }
+pub scenes-requires-clause-legal : goal.scenes-requires-clause-legal
+scenes-requires-clause-legal c =
+    let s = c.args.self.now in
+    rw c.settings.ensures.value (legal_take c.args.device (shape_of s) s.legal).1

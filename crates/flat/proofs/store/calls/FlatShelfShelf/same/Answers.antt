@@ -1,26 +1,21 @@
-use Rattle.std.proofs.Common.{◌≡◌, false, ◌⊎◌, get_or, vec_items, sym, inl, inr}
+use Rattle.std.proofs.Common.{vec_items, sym}
+use Rattle.std.proofs.lemmas.Result.{err_from_is_err_and}
 use Rattle.shelf.specs.Shapes.{shape_of}
-use Rattle.flat.proofs.Calling.{compares_bare, compares_rows}
-use Rattle.flat.proofs.store.calls.FlatShelfShelf.same.Goals.{then-not-self-l-via-then-not-self-l, then-not-self-l-via-else-not-self-l+then-not-self-r}
+use Rattle.flat.proofs.Calling.{compares_refused, compares_rows}
 use Rattle.flat.proofs.store.calls.FlatShelfShelf.same.Goals as goal
 
-pub returns-then-not-self-l : goal.returns-then-not-self-l
-returns-then-not-self-l c =
+pub returns-in_err-left : goal.returns-in_err-left
+returns-in_err-left c =
     let s = c.args.self.now in
-    let l = c.args.left in
-    let r = c.args.right in
-    let bare : (get_or s.hung l false ≡ false) ⊎ (get_or s.hung r false ≡ false) =
-    elim c.then-not-self-l.branch [
-      | then-not-self-l-via-then-not-self-l w ↦ inl w.if-not-self-l.true
-      | then-not-self-l-via-else-not-self-l+then-not-self-r w ↦ inr w.if-not-self-r.true
-    ] in
-    record { answer = sym (compares_bare (shape_of s.shape) (vec_items s.cells) s.hung l r c.if-l-ge-PEGS.false c.if-r-ge-PEGS.false bare) }
+    let p = err_from_is_err_and c.from_residual.result c.from_residual.ensures.1 in
+    record { answer = rw (p.1, p.2) (sym (compares_refused (shape_of s.shape) (vec_items s.cells) s.hung c.args.left c.args.right _ c.in_err-left.ensures)) }
 
 pub returns : goal.returns
 returns c =
     let s = c.args.self.now in
+    let l = c.in_ok-left.ensures.0 in
+    let r = c.in_ok-left.ensures.1 in
     record {
-      answer =
-          compares_rows (shape_of s.shape) (vec_items s.cells) s.hung c.args.left c.args.right c.if-l-ge-PEGS.false c.if-r-ge-PEGS.false c.if-not-self-l.false c.if-not-self-r.false
-          c.row.result.now c.row-2.result.now c.same_rows.result c.same_rows.ensures.value c.row.ensures.value c.row-2.ensures.value;
+      answer = rw (sym l.0, sym r.0) (compares_rows (shape_of s.shape) (vec_items s.cells) s.hung _ _ l.1 r.1 l.2 r.2
+          c.row.result.now c.row-2.result.now c.same_rows.result c.same_rows.ensures.value c.row.ensures.value c.row-2.ensures.value);
     }
