@@ -54,11 +54,12 @@ answer_right op nodes shape store l a b e none fa fb is =
     (r.0, r.1 ∙ goal_comm op nodes shape l b a)
 
 -- no device remains
-pub answer_leaf : (op : Op) (nodes : List (Option Node)) (shape : Shape) (l : ℕ) (a b : Edge) (wa wb : ℕ) (ws : Weights) → l ≡ length shape → a.weight ≡ Some wa → b.weight ≡ Some wb → ws ≡ split_of op wa wb → Stands nodes shape l (goal op nodes shape l a b) (record { weight = Some ws.base; child = 0 })
-answer_leaf op nodes shape l a b wa wb ws at ha hb hw =
-    let e : Edge = record { weight = Some ws.base; child = 0 } in
-    subst (λ (t : Shape). Fine nodes t l e × (chart nodes t e ≡ zipped (entry op) (chart nodes t a) (chart nodes t b))) (sym (drop_all l shape (omega arith)))
-    (refl, ap (λ (v : Time). v ∷ []) (ap (λ (w : Weights). Some w.base) hw ∙ sym (split_base op wa wb) ∙ sym (λ i. entry op (ha i) (hb i))))
+pub answer_leaf : (op : Op) (nodes : List (Option Node)) (shape : Shape) (l : ℕ) (a b : Edge) (wa wb : ℕ) (ws : Weights) → l ≡ length shape → a.weight ≡ Some wa → b.weight ≡ Some wb → ws ≡ split_of op wa wb → Fine nodes (drop l shape) l a → Stands nodes shape l (goal op nodes shape l a b) (record { weight = Some ws.base; child = a.child })
+answer_leaf op nodes shape l a b wa wb ws at ha hb hw fa =
+    let e : Edge = record { weight = Some ws.base; child = a.child } in
+    let none = drop_all l shape (omega arith) in
+    subst (λ (t : Shape). Fine nodes t l e × (chart nodes t e ≡ zipped (entry op) (chart nodes t a) (chart nodes t b))) (sym none)
+    (subst (λ (t : Shape). Fine nodes t l a) none fa, ap (λ (v : Time). v ∷ []) (ap (λ (w : Weights). Some w.base) hw ∙ sym (split_base op wa wb) ∙ sym (λ i. entry op (ha i) (hb i))))
 
 -- the lesser of two edges to one node
 pub answer_same : (op : Op) (nodes : List (Option Node)) (shape : Shape) (l : ℕ) (a b : Edge) (wa wb : ℕ) (ws : Weights) → op ≡ Cheaper → a.child ≡ b.child → a.weight ≡ Some wa → b.weight ≡ Some wb → ws ≡ split_of op wa wb → Fine nodes (drop l shape) l a → Stands nodes shape l (goal op nodes shape l a b) (record { weight = Some ws.base; child = a.child })

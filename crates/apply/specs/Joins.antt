@@ -1,5 +1,5 @@
 -- The chart that joining two edges is to give. Assumes nothing.
-use Rattle.std.specs.Prelude.{◌≡◌, ℕ, false, List, drop, Option}
+use Rattle.std.specs.Prelude.{◌≡◌, ℕ, false, List, drop, Some, None, Option, slice_index}
 use Rattle.nodes.specs.declared.edge.Edge.{Edge}
 use Rattle.nodes.specs.declared.node.Node.{Node}
 use Rattle.nodes.specs.declared.remembered.Op.{Op}
@@ -7,6 +7,9 @@ use Rattle.model.specs.Charts.{Chart, zipped, late}
 use Rattle.model.specs.Lists.{some}
 use Rattle.model.specs.Scenes.{Shape}
 use Rattle.store.specs.Stores.{chart, Fine}
+use Rattle.store.specs.Fillings.{Stuck}
+use Rattle.build.specs.Grew.{nodes_in, shape_in, Grew, Begun}
+use Rattle.build.specs.declared.node_store.NodeStore.{NodeStore}
 use Rattle.memo.specs.Operations.{entry}
 
 -- entry by entry, over the devices from l on
@@ -20,3 +23,8 @@ pub record Joinable (op : Op) (nodes : List (Option Node)) (shape : Shape) (l : 
   pub left_timely : some late (chart nodes (drop l shape) a) ≡ false
   pub right_timely : some late (chart nodes (drop l shape) b) ≡ false
   pub timely : some late (goal op nodes shape l a b) ≡ false
+
+-- all kids of a node for a chart stand, or there was no room
+abbrev pub KidsBuilt : NodeStore → NodeStore → ℕ → Chart → Option (List Edge) → Type 0
+KidsBuilt old new l c None = Grew old new l c × Stuck (nodes_in new) (shape_in old) l c
+KidsBuilt old new l c (Some kids) = Begun old new l c (slice_index (shape_in old) l) kids

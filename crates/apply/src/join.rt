@@ -1,35 +1,24 @@
-ghost use Rattle.std.specs.Prelude.{◌≤◌, length};
-ghost use Rattle.build.specs.Builds.{Ready, Grows, Built};
-ghost use Rattle.memo.specs.Results.{Knows};
-ghost use Rattle.apply.specs.Joins.{goal, Joinable};
+ghost use Rattle.std.specs.Prelude.{◌<◌, ◌≤◌, length};
+ghost use Rattle.build.specs.Builds.{Built};
+ghost use Rattle.build.specs.Grew.{nodes_in, shape_in, Grew};
+ghost use Rattle.apply.specs.Joins.{goal, Joinable, KidsBuilt};
+ghost use Rattle.apply.specs.Splits.{edge_of};
 
-use crate::split::{skip, split};
-use build::make::make;
-use build::reach::{node_at, raise};
-use memo::{recall, remember};
-use nodes::edge::Edge;
-use nodes::node::Node;
+use crate::split::{TimedEdge, skip, split};
+use build::reach::raise;
+use memo::diagrams::Diagrams;
+use nodes::edge::{Edge, NEVER};
 use nodes::remembered::{Key, Op, Operation, Remembered};
 
 /// The edge whose chart joins those of two edges entry by entry, or none where no slot is free for one of its parts.
 ///
 /// The devices from `level` on remain, fewer at each call. Every node that is interned is a part of the result.
-pub fn join(
-    op: Op,
-    nodes: &mut [Option<Node>],
-    memo: &mut [Option<Remembered>],
-    settings: &[u8],
-    level: usize,
-    a: Edge,
-    b: Edge,
-) -> Option<Edge>
-    requires depth { level ≤ length settings.now }
-    requires ready { Ready nodes.old settings.now }
-    requires knows { Knows nodes.old settings.now memo.old }
-    requires joinable { Joinable op nodes.old settings.now level a b }
-    ensures grows { Grows nodes.old nodes.new settings.now level (goal op nodes.old settings.now level a b) }
-    ensures knows { Knows nodes.new settings.now memo.new }
-    ensures built { Built nodes.new settings.now level (goal op nodes.old settings.now level a b) result }
+#[cycle(joins)]
+pub fn join(diagrams: &mut Diagrams, op: Op, level: usize, a: Edge, b: Edge) -> Option<Edge>
+    requires depth { level ≤ length (shape_in diagrams.old.store) }
+    requires joinable { Joinable op (nodes_in diagrams.old.store) (shape_in diagrams.old.store) level a b }
+    ensures grew { Grew diagrams.old.store diagrams.new.store level (goal op (nodes_in diagrams.old.store) (shape_in diagrams.old.store) level a b) }
+    ensures built { Built (nodes_in diagrams.new.store) (shape_in diagrams.old.store) level (goal op (nodes_in diagrams.old.store) (shape_in diagrams.old.store) level a b) result }
 {
     let Some(wa) = a.weight else {
         return Some(skip(op, a, b));
@@ -38,57 +27,78 @@ pub fn join(
         return Some(skip(op, b, a));
     };
     let weights = split(op, wa, wb);
-    if level == settings.len() {
-        return Some(Edge {
-            weight: Some(weights.base),
-            child: 0,
-        });
-    }
-    if op == Op::Cheaper && a.child == b.child {
-        return Some(Edge {
-            weight: Some(weights.base),
-            child: a.child,
-        });
-    }
-    let x = Edge {
-        weight: Some(weights.left),
+    let same = Edge {
+        weight: Some(weights.base),
         child: a.child,
     };
-    let y = Edge {
-        weight: Some(weights.right),
+    if level == diagrams.store.devices() {
+        return Some(same);
+    }
+    if op == Op::Cheaper && a.child == b.child {
+        return Some(same);
+    }
+    let x = TimedEdge {
+        weight: weights.left,
+        child: a.child,
+    };
+    let y = TimedEdge {
+        weight: weights.right,
         child: b.child,
     };
+    let rest = join_nodes(diagrams, op, level, x, y)?;
+    Some(raise(rest, weights.base))
+}
+
+/// The edge for two edges with times that lead to nodes, which is looked up, or built and then remembered.
+#[cycle(joins)]
+fn join_nodes(
+    diagrams: &mut Diagrams,
+    op: Op,
+    level: usize,
+    x: TimedEdge,
+    y: TimedEdge,
+) -> Option<Edge>
+    requires depth { level < length (shape_in diagrams.old.store) }
+    requires joinable { Joinable op (nodes_in diagrams.old.store) (shape_in diagrams.old.store) level (edge_of x) (edge_of y) }
+    ensures grew { Grew diagrams.old.store diagrams.new.store level (goal op (nodes_in diagrams.old.store) (shape_in diagrams.old.store) level (edge_of x) (edge_of y)) }
+    ensures built { Built (nodes_in diagrams.new.store) (shape_in diagrams.old.store) level (goal op (nodes_in diagrams.old.store) (shape_in diagrams.old.store) level (edge_of x) (edge_of y)) result }
+{
     let key = Key {
         operation: Operation::Join(op),
         level: level as u8,
-        left: x,
-        right: y,
+        left: x.edge(),
+        right: y.edge(),
     };
-    if let Some(known) = recall(memo, &key) {
-        return Some(raise(known, weights.base));
+    if let Some(known) = diagrams.recall(&key) {
+        return Some(known);
     }
-    let left = node_at(nodes, a.child);
-    let right = node_at(nodes, b.child);
-    let count = settings[level] as usize;
-    let mut kids = [Edge {
-        weight: None,
-        child: 0,
-    }; 8];
-    for i in 0..count {
-        let d = raise(left.edges[i], weights.left);
-        let e = raise(right.edges[i], weights.right);
-        match join(op, nodes, memo, settings, level + 1, d, e) {
-            Some(kid) => {
-                kids[i] = kid;
-            }
-            None => return None,
-        }
+    let kids = join_kids(diagrams, op, level, x, y)?;
+    let result = diagrams.make(level, kids)?;
+    diagrams.remember(Remembered { key, result });
+    Some(result)
+}
+
+/// The edges for the settings of the level's device.
+#[cycle(joins)]
+fn join_kids(
+    diagrams: &mut Diagrams,
+    op: Op,
+    level: usize,
+    x: TimedEdge,
+    y: TimedEdge,
+) -> Option<[Edge; 8]>
+    requires depth { level < length (shape_in diagrams.old.store) }
+    requires joinable { Joinable op (nodes_in diagrams.old.store) (shape_in diagrams.old.store) level (edge_of x) (edge_of y) }
+    ensures { KidsBuilt diagrams.old.store diagrams.new.store level (goal op (nodes_in diagrams.old.store) (shape_in diagrams.old.store) level (edge_of x) (edge_of y)) result }
+{
+    let left = diagrams.store.node_at(x.child);
+    let right = diagrams.store.node_at(y.child);
+    let mut kids = [NEVER; 8];
+    // By index: three arrays go in step.
+    for i in 0..diagrams.store.count(level) {
+        let d = raise(left.edges[i], x.weight);
+        let e = raise(right.edges[i], y.weight);
+        kids[i] = join(diagrams, op, level + 1, d, e)?;
     }
-    match make(nodes, settings, level, kids) {
-        Some(made) => {
-            remember(memo, Remembered { key, result: made });
-            Some(raise(made, weights.base))
-        }
-        None => None,
-    }
+    Some(kids)
 }

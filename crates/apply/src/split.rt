@@ -1,9 +1,28 @@
 ghost use Rattle.std.specs.Prelude.{◌≡◌, false, Some};
 ghost use Rattle.model.specs.Charts.{late};
-ghost use Rattle.apply.specs.Splits.{split_of, skipped};
+ghost use Rattle.apply.specs.Splits.{split_of, skipped, edge_of};
 
 use nodes::edge::Edge;
 use nodes::remembered::Op;
+
+/// An edge with a time.
+#[derive(Clone, Copy)]
+pub struct TimedEdge {
+    pub weight: u64,
+    pub child: u16,
+}
+
+impl TimedEdge {
+    /// The edge.
+    pub fn edge(&self) -> Edge
+        ensures { result ≡ edge_of self.now }
+    {
+        Edge {
+            weight: Some(self.weight),
+            child: self.child,
+        }
+    }
+}
 
 /// Two weights as what they have in common and what is left of each.
 #[derive(Clone, Copy)]
@@ -14,6 +33,7 @@ pub struct Weights {
 }
 
 /// What two weights have in common under an operation: it is added to the result once the rest is joined.
+// No method of `Op`: the crate of nodes knows nothing of weights in common.
 pub fn split(op: Op, a: u64, b: u64) -> Weights
     requires left { late (Some a) ≡ false }
     requires right { late (Some b) ≡ false }

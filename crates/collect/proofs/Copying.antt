@@ -1,26 +1,28 @@
 -- The steps of copying, over plain values. Assumes nothing.
-use Rattle.std.proofs.Common.{◌≡◌, ℕ, zero, suc, ◌+◌, ◌*◌, ◌<◌, false, List, [], ◌∷◌, length, get_or, take, drop, set, Some, None, Option, sym, refl, ap, ◌∙◌, subst, inl, inr, arith}
+use Rattle.std.proofs.Common.{◌≡◌, ℕ, zero, suc, ◌+◌, ◌*◌, ◌<◌, ◌≤◌, false, List, [], ◌∷◌, length, get_or, take, drop, set, Some, None, Option, sym, refl, ap, ◌∙◌, subst, inl, inr, arith}
 use Rattle.std.specs.List.{AllByRecursion, flat_map}
 use Rattle.std.proofs.lemmas.Bool.{cases_eq}
-use Rattle.std.proofs.lemmas.List.{drop_more, drop_all, get_or-take, get_or-map, get_or-set_same, get_or-set_other}
-use Rattle.table.specs.Tables.{slot, Kept, Empty}
+use Rattle.std.proofs.lemmas.List.{drop_more, drop_all, get_or-map, get_or-set_same, get_or-set_other}
+use Rattle.table.specs.Tables.{slot}
 use Rattle.nodes.specs.declared.edge.Edge.{Edge}
 use Rattle.nodes.specs.declared.node.Node.{Node}
-use Rattle.model.specs.Charts.{Time, plus, late}
+use Rattle.model.specs.Charts.{Time, Chart, plus, late}
 use Rattle.model.specs.Lists.{In, some}
 use Rattle.model.specs.Parts.{least, lowered, parts, pieces}
 use Rattle.model.specs.Scenes.{Shape, size}
 use Rattle.model.proofs.Lateness.{late_tells}
 use Rattle.parts.specs.Shifts.{later, zeroed}
 use Rattle.parts.proofs.Pieces.{pieces_each, all_in, parts_back, lowered_zeroed}
-use Rattle.store.specs.Stores.{none_edge, node_at, lowest, chart, body, below, highest, Leads, Fine, Formed, Store}
+use Rattle.store.specs.Stores.{none_edge, node_at, chart, body, below, highest, Leads, Fine, Formed, Store}
 use Rattle.store.specs.Fillings.{Stuck}
-use Rattle.store.proofs.Canon.{led, kids_of, knows, knows_kids, kids_long, body_long, body_low, body_high, lowered_is}
+use Rattle.store.proofs.Canon.{Known, led, kids_of, knows, knows_kids, kids_long, body_long, body_low, body_high, lowered_is}
 use Rattle.store.proofs.Grows.{fine_kept, chart_kept}
 use Rattle.build.specs.Builds.{piece, Ready, Kids, Grows, Partway, together, Stands}
+use Rattle.build.specs.Grew.{nodes_in, shape_in, Grew}
+use Rattle.build.specs.declared.node_store.NodeStore.{NodeStore}
 use Rattle.build.proofs.Highs.{late_left, late_right}
 use Rattle.build.proofs.Makes.{late_less, highest_never}
-use Rattle.build.proofs.Steps.{get_or_in, grows_then, grows_alike, ready_after, stuck_wider, partway_grows, partway_stuck, partway_more, partway_kids, partway_all}
+use Rattle.build.proofs.Steps.{get_or_in, grows_then, grows_alike, stuck_wider, partway_grows, partway_stuck, partway_more, partway_kids, partway_all}
 use Rattle.collect.specs.Copies.{Noted, Moved}
 
 -- What is late
@@ -53,163 +55,172 @@ copy_leaf source nodes shape l e at f =
     let p = drop_all l shape (omega arith) in
     subst (λ (t : Shape). Fine nodes t l e × (chart nodes t e ≡ chart source t e)) (sym p) (subst (λ (t : Shape). Fine source t l e) p f, refl)
 
-pub record Side (source : List (Option Node)) (shape : Shape) (l : ℕ) (e : Edge) (x : Node) : Type 0 where
+-- an edge to be copied, at a level that a device remains for
+pub record Side (source : List (Option Node)) (shape : Shape) (l : ℕ) (e : Edge) : Type 0 where
   pub store : Store source shape
   pub lt : l < length shape
   pub fine : Fine source (drop l shape) l e
-  pub here : x ≡ node_at source e.child
 
-module _ (source : List (Option Node)) (shape : Shape) (l : ℕ) (e : Edge) (x : Node) (side : Side source shape l e x) where
+-- what stands at a setting of the device
+pub record Item (source : List (Option Node)) (shape : Shape) (l : ℕ) (e : Edge) (i : ℕ) (kid : Edge) : Type 0 where
+  pub below : i < get_or shape l 0
+  pub is : kid ≡ get_or (take (get_or shape l 0) (node_at source e.child).edges) i none_edge
+
+-- the chart of the edge's node, which the loop builds
+abbrev pub aim : List (Option Node) → Shape → ℕ → Edge → Chart
+aim source shape l e = body source (drop l shape) (node_at source e.child)
+
+module _ {source : List (Option Node)} {shape : Shape} {l : ℕ} {e : Edge} (side : Side source shape l e) where
   leads : Leads source (get_or shape l 0) l e
   leads = subst (λ t. Fine source t l e) (drop_more shape l 0 side.lt) side.fine
 
-  low : zeroed e.weight ≡ lowest (take (get_or shape l 0) x.edges)
-  low = leads.low ∙ ap (λ (y : Node). lowest (take (get_or shape l 0) y.edges)) (sym side.here)
+  abbrev sides : List Edge
+  sides = take (get_or shape l 0) (node_at source e.child).edges
 
-  formed : Formed source (get_or shape l 0) (drop (l + 1) shape) x
-  formed = subst (Formed source (get_or shape l 0) (drop (l + 1) shape)) (sym side.here) (led source shape side.store l (get_or shape l 0) (drop (l + 1) shape) e (drop_more shape l 0 side.lt) leads)
+  formed : Formed source (get_or shape l 0) (drop (l + 1) shape) (node_at source e.child)
+  formed = led source shape side.store l (get_or shape l 0) (drop (l + 1) shape) e (drop_more shape l 0 side.lt) leads
 
-  all_kids : AllByRecursion (Fine source (drop (l + 1) shape) (l + 1)) (take (get_or shape l 0) x.edges)
-  all_kids = subst (λ y. AllByRecursion (Fine source (drop (l + 1) shape) (l + 1)) (take (get_or shape l 0) y.edges)) (sym side.here) (kids_of source shape side.store l (get_or shape l 0) (drop (l + 1) shape) e (drop_more shape l 0 side.lt) leads)
+  all_kids : AllByRecursion (Fine source (drop (l + 1) shape) (l + 1)) sides
+  all_kids = kids_of source shape side.store l (get_or shape l 0) (drop (l + 1) shape) e (drop_more shape l 0 side.lt) leads
 
-  body_is : body source (drop l shape) x ≡ flat_map (chart source (drop (l + 1) shape)) (take (get_or shape l 0) x.edges)
-  body_is = ap (λ t. body source t x) (drop_more shape l 0 side.lt)
+  known : AllByRecursion (Known source (drop (l + 1) shape)) sides
+  known = knows_kids source shape side.store l (get_or shape l 0) (drop (l + 1) shape) sides (drop_more shape l 0 side.lt) all_kids
 
-  copy_low : zeroed e.weight ≡ least (body source (drop l shape) x)
-  copy_low =
-      let n = get_or shape l 0 in
-      let ns = drop (l + 1) shape in
-      low ∙ sym (body_low source n ns (take n x.edges) (knows_kids source shape side.store l n ns (take n x.edges) (drop_more shape l 0 side.lt) all_kids)) ∙ sym (ap least body_is)
+  aim_is : aim source shape l e ≡ flat_map (chart source (drop (l + 1) shape)) sides
+  aim_is = ap (λ t. body source t (node_at source e.child)) (drop_more shape l 0 side.lt)
 
-  copy_long : length (body source (drop l shape) x) ≡ get_or shape l 0 * size (drop (l + 1) shape)
-  copy_long =
-      let n = get_or shape l 0 in
-      let ns = drop (l + 1) shape in
-      ap length body_is ∙ body_long source n ns (take n x.edges) (knows_kids source shape side.store l n ns (take n x.edges) (drop_more shape l 0 side.lt) all_kids) formed.wide
+  aim_low : zeroed e.weight ≡ least (aim source shape l e)
+  aim_low = leads.low ∙ sym (body_low source (get_or shape l 0) (drop (l + 1) shape) sides known) ∙ sym (ap least aim_is)
 
-  most_is : below source (drop l shape) e ≡ x.most
-  most_is = ap (λ t. below source t e) (drop_more shape l 0 side.lt) ∙ ap (λ (y : Node). y.most) (sym side.here)
+  aim_long : length (aim source shape l e) ≡ get_or shape l 0 * size (drop (l + 1) shape)
+  aim_long = ap length aim_is ∙ body_long source (get_or shape l 0) (drop (l + 1) shape) sides known formed.wide
 
-  body_timely : late (below source (drop l shape) e) ≡ false → some late (body source (drop l shape) x) ≡ false
-  body_timely h =
-      let n = get_or shape l 0 in
-      let ns = drop (l + 1) shape in
-      let known = knows_kids source shape side.store l n ns (take n x.edges) (drop_more shape l 0 side.lt) all_kids in
-      ap (some late) body_is ∙ late_tells (flat_map (chart source ns) (take n x.edges)) ∙ ap late (body_high source n ns (take n x.edges) known ∙ sym formed.high ∙ sym most_is) ∙ h
+  most_is : below source (drop l shape) e ≡ (node_at source e.child).most
+  most_is = ap (λ t. below source t e) (drop_more shape l 0 side.lt)
 
-  copy_chart : chart source (drop l shape) e ≡ later e.weight (body source (drop l shape) x)
-  copy_chart = subst (λ t. chart source t e ≡ later e.weight (body source t x)) (sym (drop_more shape l 0 side.lt)) (ap (λ y. later e.weight (flat_map (chart source (drop (l + 1) shape)) (take (get_or shape l 0) y.edges))) (sym side.here))
+  aim_timely : late (below source (drop l shape) e) ≡ false → some late (aim source shape l e) ≡ false
+  aim_timely h = ap (some late) aim_is ∙ late_tells (flat_map (chart source (drop (l + 1) shape)) sides) ∙ ap late (body_high source (get_or shape l 0) (drop (l + 1) shape) sides known ∙ sym formed.high ∙ sym most_is) ∙ h
 
-  copy_parts : parts (drop l shape) l (body source (drop l shape) x) ≡ parts (drop l shape) l (chart source (drop l shape) e)
-  copy_parts = sym (parts_back (drop l shape) l e.weight (body source (drop l shape) x) copy_low) ∙ ap (parts (drop l shape) l) (sym copy_chart)
+  chart_is : chart source (drop l shape) e ≡ later e.weight (aim source shape l e)
+  chart_is = subst (λ t. chart source t e ≡ later e.weight (body source t (node_at source e.child))) (sym (drop_more shape l 0 side.lt)) refl
 
-  module _ (k : ℕ) (kl : k < get_or shape l 0) where
-    pub kid_fine : Fine source (drop (l + 1) shape) (l + 1) (get_or x.edges k none_edge)
+  same_parts : parts (drop l shape) l (aim source shape l e) ≡ parts (drop l shape) l (chart source (drop l shape) e)
+  same_parts = sym (parts_back (drop l shape) l e.weight (aim source shape l e) aim_low) ∙ ap (parts (drop l shape) l) (sym chart_is)
+
+  -- how many settings the loop has passed, at its end
+  pub all_passed : {n : ℕ} {x : Node} (i : ℕ) → n ≡ get_or shape l 0 → x ≡ node_at source e.child → length (take n x.edges) ≤ i → i ≤ length (take n x.edges) → i ≡ get_or shape l 0
+  all_passed i hn hx low high =
+      let long = (λ j. length (take (hn j) (hx j).edges)) ∙ formed.wide in
+      omega arith
+
+  -- the edge at a setting
+  pub item_at : {n : ℕ} {x : Node} (i : ℕ) → n ≡ get_or shape l 0 → x ≡ node_at source e.child → i < length (take n x.edges) → Item source shape l e i (get_or (take n x.edges) i none_edge)
+  item_at i hn hx il =
+      let long = (λ j. length (take (hn j) (hx j).edges)) ∙ formed.wide in
+      record { below = omega arith; is = λ j. get_or (take (hn j) (hx j).edges) i none_edge }
+
+  module _ {k : ℕ} {kid : Edge} (item : Item source shape l e k kid) where
+    within : k < length sides
+    within = omega (arith, item.below, formed.wide)
+
+    pub kid_fine : Fine source (drop (l + 1) shape) (l + 1) kid
     kid_fine =
-        let n = get_or shape l 0 in
-        let ns = drop (l + 1) shape in
-        subst (Fine source ns (l + 1)) (get_or-take n x.edges k none_edge kl) (all_in (Fine source ns (l + 1)) (get_or (take n x.edges) k none_edge) (take n x.edges) all_kids (get_or_in (take n x.edges) k none_edge (omega (arith, kl, formed.wide))))
+        let fine = Fine source (drop (l + 1) shape) (l + 1) in
+        subst fine (sym item.is) (all_in fine (get_or sides k none_edge) sides all_kids (get_or_in sides k none_edge within))
 
-    pub kid_timely : late (below source (drop l shape) e) ≡ false → late (below source (drop (l + 1) shape) (get_or x.edges k none_edge)) ≡ false
+    pub kid_timely : late (below source (drop l shape) e) ≡ false → late (below source (drop (l + 1) shape) kid) ≡ false
     kid_timely h =
-        let n = get_or shape l 0 in
         let ns = drop (l + 1) shape in
-        let t = highest_at source ns (take n x.edges) k (omega (arith, kl, formed.wide)) (ap late (sym formed.high ∙ sym most_is) ∙ h) in
-        below_timely source shape side.store ns (l + 1) (get_or x.edges k none_edge) refl kid_fine (ap (λ d. late (plus d.weight (below source ns d))) (sym (get_or-take n x.edges k none_edge kl)) ∙ t)
+        let t = highest_at source ns sides k within (ap late (sym formed.high ∙ sym most_is) ∙ h) in
+        below_timely source shape side.store ns (l + 1) kid refl kid_fine (ap (λ d. late (plus d.weight (below source ns d))) item.is ∙ t)
 
-    kid_piece : chart source (drop (l + 1) shape) (get_or x.edges k none_edge) ≡ piece shape l (body source (drop l shape) x) k
+    kid_piece : chart source (drop (l + 1) shape) kid ≡ piece shape l (aim source shape l e) k
     kid_piece =
         let n = get_or shape l 0 in
         let ns = drop (l + 1) shape in
-        let es = take n x.edges in
-        let known = knows_kids source shape side.store l n ns es (drop_more shape l 0 side.lt) all_kids in
-        sym (ap (λ c. get_or (pieces n (size ns) c) k []) body_is
-        ∙ ap (λ m. get_or (pieces m (size ns) (flat_map (chart source ns) es)) k []) (sym formed.wide)
-        ∙ ap (λ ps. get_or ps k []) (pieces_each (chart source ns) (size ns) es (kids_long source n ns es known))
-        ∙ get_or-map (chart source ns) es k none_edge [] (omega (arith, kl, formed.wide))
-        ∙ ap (chart source ns) (get_or-take n x.edges k none_edge kl))
+        sym (ap (λ c. get_or (pieces n (size ns) c) k []) aim_is
+        ∙ ap (λ m. get_or (pieces m (size ns) (flat_map (chart source ns) sides)) k []) (sym formed.wide)
+        ∙ ap (λ ps. get_or ps k []) (pieces_each (chart source ns) (size ns) sides (kids_long source n ns sides known))
+        ∙ get_or-map (chart source ns) sides k none_edge [] within
+        ∙ ap (chart source ns) (sym item.is))
 
   -- the loop
-  module _ (old mid : List (Option Node)) (ready : Ready old shape) (i : ℕ) (kids : List Edge) (way : Partway old mid shape l (body source (drop l shape) x) i kids) where
-    pub copy_ready : Ready mid shape
-    copy_ready = ready_after old mid shape l (body source (drop l shape) x) ready way.grows
+  module _ {old mid : List (Option Node)} (ready : Ready old shape) {i : ℕ} {kids : List Edge} (way : Partway old mid shape l (aim source shape l e) i kids) where
+    module _ {kid : Edge} (item : Item source shape l e i kid) {new : List (Option Node)} (g : Grows mid new shape (l + 1) (chart source (drop (l + 1) shape) kid)) where
+      grew : Grows mid new shape (l + 1) (piece shape l (aim source shape l e) i)
+      grew = subst (Grows mid new shape (l + 1)) (kid_piece item) g
 
-    module _ (new : List (Option Node)) (il : i < get_or shape l 0) (g : Grows mid new shape (l + 1) (chart source (drop (l + 1) shape) (get_or x.edges i none_edge))) where
-      grew : Grows mid new shape (l + 1) (piece shape l (body source (drop l shape) x) i)
-      grew = subst (Grows mid new shape (l + 1)) (kid_piece i il) g
+      copy_grows : Grows old new shape l (chart source (drop l shape) e)
+      copy_grows = grows_alike old new shape l (aim source shape l e) (chart source (drop l shape) e) same_parts (partway_grows old mid new shape l (aim source shape l e) i kids ready.store side.lt item.below way grew)
 
-      pub copy_grows : Grows old new shape l (chart source (drop l shape) e)
-      copy_grows = grows_alike old new shape l (body source (drop l shape) x) (chart source (drop l shape) e) copy_parts (partway_grows old mid new shape l (body source (drop l shape) x) i kids ready.store side.lt il way grew)
+      copy_stuck : Stuck new shape (l + 1) (chart source (drop (l + 1) shape) kid) → Stuck new shape l (chart source (drop l shape) e)
+      copy_stuck s = stuck_wider new shape l l (chart source (drop l shape) e) (aim source shape l e) (λ p h. subst (In p) same_parts h) (partway_stuck old mid new shape l (aim source shape l e) i kids ready.store side.lt item.below way grew (subst (Stuck new shape (l + 1)) (kid_piece item) s))
 
-      pub copy_stuck : Stuck new shape (l + 1) (chart source (drop (l + 1) shape) (get_or x.edges i none_edge)) → Stuck new shape l (chart source (drop l shape) e)
-      copy_stuck s = stuck_wider new shape l l (chart source (drop l shape) e) (body source (drop l shape) x) (λ p h. subst (In p) copy_parts h) (partway_stuck old mid new shape l (body source (drop l shape) x) i kids ready.store side.lt il way grew (subst (Stuck new shape (l + 1)) (kid_piece i il) s))
-
-      pub copy_more : (kid : Edge) → Stands new shape (l + 1) (chart source (drop (l + 1) shape) (get_or x.edges i none_edge)) kid → Partway old new shape l (body source (drop l shape) x) (i + 1) (set kids i kid)
-      copy_more kid st = partway_more old mid new shape l (body source (drop l shape) x) i kids ready.store side.lt il way grew kid (ready.few l) st.0 (st.1 ∙ kid_piece i il)
+      copy_more : (d : Edge) → Stands new shape (l + 1) (chart source (drop (l + 1) shape) kid) d → Partway old new shape l (aim source shape l e) (i + 1) (set kids i d)
+      copy_more d st = partway_more old mid new shape l (aim source shape l e) i kids ready.store side.lt item.below way grew d (ready.few l) st.0 (st.1 ∙ kid_piece item)
 
     module _ (all : i ≡ get_or shape l 0) where
-      end : Partway old mid shape l (body source (drop l shape) x) (get_or shape l 0) kids
-      end = subst (λ k. Partway old mid shape l (body source (drop l shape) x) k kids) all way
+      end : Partway old mid shape l (aim source shape l e) (get_or shape l 0) kids
+      end = subst (λ k. Partway old mid shape l (aim source shape l e) k kids) all way
 
-      pub copy_kids : Kids mid (get_or shape l 0) (drop (l + 1) shape) l kids
-      copy_kids = partway_kids old mid shape l (body source (drop l shape) x) kids (ready.few l) end
+      copy_together : together mid shape l kids ≡ aim source shape l e
+      copy_together = partway_all old mid shape l (aim source shape l e) kids (ready.few l) end aim_long
 
-      copy_together : together mid shape l kids ≡ body source (drop l shape) x
-      copy_together = partway_all old mid shape l (body source (drop l shape) x) kids (ready.few l) end copy_long
+      copy_kids : Kids mid (get_or shape l 0) (drop (l + 1) shape) l kids
+      copy_kids = partway_kids old mid shape l (aim source shape l e) kids (ready.few l) end
 
-      pub copy_timely : late (below source (drop l shape) e) ≡ false → some late (together mid shape l kids) ≡ false
-      copy_timely h = ap (some late) copy_together ∙ body_timely h
+      copy_timely : late (below source (drop l shape) e) ≡ false → some late (together mid shape l kids) ≡ false
+      copy_timely h = ap (some late) copy_together ∙ aim_timely h
 
-      pub copy_made : (new : List (Option Node)) → Grows mid new shape l (together mid shape l kids) → Grows old new shape l (chart source (drop l shape) e)
-      copy_made new g = grows_alike old new shape l (body source (drop l shape) x) (chart source (drop l shape) e) copy_parts (grows_then old mid new shape l l (body source (drop l shape) x) (body source (drop l shape) x) ready.store (λ p h. h) way.grows (subst (Grows mid new shape l) copy_together g))
+      copy_made : {new : List (Option Node)} → Grows mid new shape l (together mid shape l kids) → Grows old new shape l (chart source (drop l shape) e)
+      copy_made {new} g = grows_alike old new shape l (aim source shape l e) (chart source (drop l shape) e) same_parts (grows_then old mid new shape l l (aim source shape l e) (aim source shape l e) ready.store (λ p h. h) way.grows (subst (Grows mid new shape l) copy_together g))
 
-      pub copy_full : (new : List (Option Node)) → Stuck new shape l (together mid shape l kids) → Stuck new shape l (chart source (drop l shape) e)
-      copy_full new s = stuck_wider new shape l l (chart source (drop l shape) e) (body source (drop l shape) x) (λ p h. subst (In p) copy_parts h) (subst (Stuck new shape l) copy_together s)
+      copy_full : {new : List (Option Node)} → Stuck new shape l (together mid shape l kids) → Stuck new shape l (chart source (drop l shape) e)
+      copy_full {new} s = stuck_wider new shape l l (chart source (drop l shape) e) (aim source shape l e) (λ p h. subst (In p) same_parts h) (subst (Stuck new shape l) copy_together s)
 
-      pub made_body : (new : List (Option Node)) (m : Edge) → Stands new shape l (together mid shape l kids) m → Stands new shape l (body source (drop l shape) x) m
-      made_body new m st = (st.0, st.1 ∙ copy_together)
+      made_aim : (new : List (Option Node)) (m : Edge) → Stands new shape l (together mid shape l kids) m → Stands new shape l (aim source shape l e) m
+      made_aim new m st = (st.0, st.1 ∙ copy_together)
 
--- the made edge, with the weight of any edge to the node
-pub copy_stands : (source : List (Option Node)) (shape : Shape) (l : ℕ) (e : Edge) (x : Node) → Side source shape l e x → (new : List (Option Node)) → Store new shape → (m : Edge) → Stands new shape l (body source (drop l shape) x) m → Stands new shape l (chart source (drop l shape) e) (record { weight = e.weight; child = m.child })
-copy_stands source shape l e x side new store m st =
-    let at = drop_more shape l 0 side.lt in
-    let n = get_or shape l 0 in
-    let ns = drop (l + 1) shape in
-    let f : Leads new n l m = subst (λ t. Fine new t l m) at st.0 in
-    let c = body source (drop l shape) x in
-    let cl = copy_low source shape l e x side in
-    let is : chart new (n ∷ ns) m ≡ c = ap (λ t. chart new t m) (sym at) ∙ st.1 in
-    let w : m.weight ≡ zeroed e.weight = sym (knows new shape store (n ∷ ns) l m at f).low ∙ ap least is ∙ sym cl in
-    let b : flat_map (chart new ns) (take n (node_at new m.child).edges) ≡ c = sym (lowered_is new shape store l n ns m at f) ∙ ap lowered is ∙ lowered_zeroed e.weight c cl in
-    let r : Leads new n l (record { weight = e.weight; child = m.child }) = record { here = f.here; deep = f.deep; low = sym (twice e.weight) ∙ ap zeroed (sym w) ∙ f.low } in
-    subst (λ t. Fine new t l (record { weight = e.weight; child = m.child }) × (chart new t (record { weight = e.weight; child = m.child }) ≡ chart source (drop l shape) e)) (sym at)
-    (r, ap (later e.weight) b ∙ sym (copy_chart source shape l e x side))
-  where
-    twice : (v : Time) → zeroed (zeroed v) ≡ zeroed v
-    twice None = refl
-    twice (Some v) = refl
+  -- the made edge, with the weight of the edge to the node
+  copy_stands : {new : List (Option Node)} → Store new shape → (m : Edge) → Stands new shape l (aim source shape l e) m → Stands new shape l (chart source (drop l shape) e) (record { weight = e.weight; child = m.child })
+  copy_stands {new} store m st =
+      let at = drop_more shape l 0 side.lt in
+      let n = get_or shape l 0 in
+      let ns = drop (l + 1) shape in
+      let f : Leads new n l m = subst (λ t. Fine new t l m) at st.0 in
+      let c = aim source shape l e in
+      let is : chart new (n ∷ ns) m ≡ c = ap (λ t. chart new t m) (sym at) ∙ st.1 in
+      let w : m.weight ≡ zeroed e.weight = sym (knows new shape store (n ∷ ns) l m at f).low ∙ ap least is ∙ sym aim_low in
+      let b : flat_map (chart new ns) (take n (node_at new m.child).edges) ≡ c = sym (lowered_is new shape store l n ns m at f) ∙ ap lowered is ∙ lowered_zeroed e.weight c aim_low in
+      let r : Leads new n l (record { weight = e.weight; child = m.child }) = record { here = f.here; deep = f.deep; low = sym (twice e.weight) ∙ ap zeroed (sym w) ∙ f.low } in
+      subst (λ t. Fine new t l (record { weight = e.weight; child = m.child }) × (chart new t (record { weight = e.weight; child = m.child }) ≡ chart source (drop l shape) e)) (sym at)
+      (r, ap (later e.weight) b ∙ sym chart_is)
+    where
+      twice : (v : Time) → zeroed (zeroed v) ≡ zeroed v
+      twice None = refl
+      twice (Some v) = refl
 
 -- Notes
 
-pub moved_kept : (source old new : List (Option Node)) (shape : Shape) (moved : List (Option ℕ)) → Store old shape → Kept old new → Moved source old shape moved → Moved source new shape moved
-moved_kept source old new shape moved store kept m k j h l e lt is f =
+moved_kept : {source old new : List (Option Node)} {shape : Shape} {l : ℕ} {c : Chart} (moved : List (Option ℕ)) → Store old shape → Grows old new shape l c → Moved source old shape moved → Moved source new shape moved
+moved_kept {source} {old} {new} {shape} moved store g m k j h l e lt is f =
     let st = m k j h l e lt is f in
     let d : Edge = record { weight = e.weight; child = j } in
-    (fine_kept old new kept (drop l shape) l d st.0, chart_kept old new kept shape store (drop l shape) l d refl st.0 ∙ st.1)
+    (fine_kept old new g.kept (drop l shape) l d st.0, chart_kept old new g.kept shape store (drop l shape) l d refl st.0 ∙ st.1)
 
 -- the level of an edge is that of its node
 level_of : (source : List (Option Node)) (shape : Shape) (l : ℕ) (e : Edge) → l < length shape → Fine source (drop l shape) l e → (node_at source e.child).level ≡ l
 level_of source shape l e lt f = (subst (λ t. Fine source t l e) (drop_more shape l 0 lt) f).deep
 
-pub moved_noted : (source nodes : List (Option Node)) (shape : Shape) (before after : List (Option ℕ)) (l : ℕ) (e : Edge) (x : Node) (m : Edge) → Side source shape l e x → Store nodes shape → Moved source nodes shape before → Stands nodes shape l (body source (drop l shape) x) m → Noted before after e.child m.child → Moved source nodes shape after
-moved_noted source nodes shape before after l e x m side store old st noted k j h k' d lt is f = elim (noted k j h) [ inl q ↦ old k j q k' d lt is f | inr q ↦ go q.0 q.1 ]
+moved_noted : {source nodes : List (Option Node)} {shape : Shape} (before after : List (Option ℕ)) {l : ℕ} {e : Edge} (m : Edge) → Side source shape l e → Store nodes shape → Moved source nodes shape before → Stands nodes shape l (aim source shape l e) m → Noted before after e.child m.child → Moved source nodes shape after
+moved_noted {source} {nodes} {shape} before after {l} {e} m side store old st noted k j h k' d lt is f = elim (noted k j h) [ inl q ↦ old k j q k' d lt is f | inr q ↦ go q.0 q.1 ]
   where
     go : k ≡ e.child → j ≡ m.child → Stands nodes shape k' (chart source (drop k' shape) d) (record { weight = d.weight; child = j })
     go p r =
         let same : k' ≡ l = sym (level_of source shape k' d lt f) ∙ ap (λ i. (node_at source i).level) (is ∙ p) ∙ level_of source shape l e side.lt side.fine in
-        let f' : Fine source (drop l shape) l d = subst (λ i. Fine source (drop i shape) i d) same f in
-        let s : Side source shape l d x = record { store = side.store; lt = side.lt; fine = f'; here = side.here ∙ ap (node_at source) (sym p ∙ sym is) } in
-        let t = copy_stands source shape l d x s nodes store m st in
+        let there : d.child ≡ e.child = is ∙ p in
+        let s : Side source shape l d = record { store = side.store; lt = side.lt; fine = subst (λ i. Fine source (drop i shape) i d) same f } in
+        let t = copy_stands s store m (st.0, st.1 ∙ ap (λ i. body source (drop l shape) (node_at source i)) (sym there)) in
         subst (λ i. Stands nodes shape i (chart source (drop i shape) d) (record { weight = d.weight; child = j })) (sym same) (subst (λ c. Stands nodes shape l (chart source (drop l shape) d) (record { weight = d.weight; child = c })) (sym r) t)
 
 pub noted_set : (old : List (Option ℕ)) (i j : ℕ) → i < length old → Noted old (set old i (Some j)) i j
@@ -218,5 +229,73 @@ noted_set old i j il k m h = elim (cases_eq k i) [
   | inr n ↦ inl (sym (get_or-set_other old i k (Some j) None n) ∙ h)
 ]
 
-pub moved_none : (source nodes : List (Option Node)) (shape : Shape) (moved : List (Option ℕ)) → Empty moved → Moved source nodes shape moved
-moved_none source nodes shape moved empty k j h = absurd (let e = empty k in let z : ◌≡◌ {A = ℕ} 0 1 = cc in omega arith)
+-- Stores
+
+-- the first i kids of the node that an edge leads to are copied
+pub record Filled (source first spare : NodeStore) (moved : List (Option ℕ)) (l : ℕ) (e : Edge) (i : ℕ) (kids : List Edge) : Type 0 where
+  pub alike : shape_in source ≡ shape_in spare
+  pub way : Partway (nodes_in first) (nodes_in spare) (shape_in source) l (aim (nodes_in source) (shape_in source) l e) i kids
+  pub noted : Moved (nodes_in source) (nodes_in spare) (shape_in source) moved
+
+-- what is said of a store over its own shape, over that of another with the same, and back
+module _ (source spare : NodeStore) (alike : shape_in source ≡ shape_in spare) where
+  pub ready_over : Ready (nodes_in spare) (shape_in source)
+  ready_over = subst (Ready (nodes_in spare)) (sym alike) spare.ready
+
+  pub grows_over : (new : NodeStore) (l : ℕ) (c : Chart) → Grew spare new l c → Grows (nodes_in spare) (nodes_in new) (shape_in source) l c
+  grows_over new l c g = subst (λ s. Grows (nodes_in spare) (nodes_in new) s l c) (sym alike) g.grows
+
+  pub grew_over : (new : NodeStore) (l : ℕ) (c : Chart) → shape_in source ≡ shape_in new → Grows (nodes_in spare) (nodes_in new) (shape_in source) l c → Grew spare new l c
+  grew_over new l c still g = record { same = sym still ∙ alike; grows = subst (λ s. Grows (nodes_in spare) (nodes_in new) s l c) alike g }
+
+module _ {source first spare : NodeStore} {moved : List (Option ℕ)} {l : ℕ} {e : Edge} {i : ℕ} {kids : List Edge} (start : shape_in source ≡ shape_in first) (side : Side (nodes_in source) (shape_in source) l e) (f : Filled source first spare moved l e i kids) where
+  abbrev shape : Shape
+  shape = shape_in source
+
+  abbrev whole : Chart
+  whole = chart (nodes_in source) (drop l shape) e
+
+  -- the next kid
+  module _ {kid : Edge} (item : Item (nodes_in source) shape l e i kid) {new : NodeStore} (g : Grew spare new (l + 1) (chart (nodes_in source) (drop (l + 1) shape) kid)) where
+    grows_here : Grows (nodes_in spare) (nodes_in new) shape (l + 1) (chart (nodes_in source) (drop (l + 1) shape) kid)
+    grows_here = grows_over source spare f.alike new (l + 1) (chart (nodes_in source) (drop (l + 1) shape) kid) g
+
+    pub filled_grew : Grew first new l whole
+    filled_grew = grew_over source first start new l whole (f.alike ∙ sym g.same) (copy_grows side (ready_over source first start) f.way item grows_here)
+
+    pub filled_stuck : Stuck (nodes_in new) shape (l + 1) (chart (nodes_in source) (drop (l + 1) shape) kid) → Stuck (nodes_in new) shape l whole
+    filled_stuck = copy_stuck side (ready_over source first start) f.way item grows_here
+
+    pub filled_more : (after : List (Option ℕ)) (d : Edge) → Stands (nodes_in new) shape (l + 1) (chart (nodes_in source) (drop (l + 1) shape) kid) d → Moved (nodes_in source) (nodes_in new) shape after → Filled source first new after l e (i + 1) (set kids i d)
+    filled_more after d st noted = record { alike = f.alike ∙ sym g.same; way = copy_more side (ready_over source first start) f.way item grows_here d st; noted = noted }
+
+  -- the node
+  module _ (all : i ≡ get_or shape l 0) where
+    pub filled_kids : Kids (nodes_in spare) (get_or (shape_in spare) l 0) (drop (l + 1) (shape_in spare)) l kids
+    filled_kids = subst (λ s. Kids (nodes_in spare) (get_or s l 0) (drop (l + 1) s) l kids) f.alike (copy_kids side (ready_over source first start) f.way all)
+
+    pub filled_timely : late (below (nodes_in source) (drop l shape) e) ≡ false → some late (together (nodes_in spare) (shape_in spare) l kids) ≡ false
+    filled_timely h = subst (λ s. some late (together (nodes_in spare) s l kids) ≡ false) f.alike (copy_timely side (ready_over source first start) f.way all h)
+
+    module _ {new : NodeStore} (g : Grew spare new l (together (nodes_in spare) (shape_in spare) l kids)) where
+      grown_here : Grows (nodes_in spare) (nodes_in new) shape l (together (nodes_in spare) shape l kids)
+      grown_here = subst (λ s. Grows (nodes_in spare) (nodes_in new) s l (together (nodes_in spare) s l kids)) (sym f.alike) g.grows
+
+      pub filled_made : Grew first new l whole
+      filled_made = grew_over source first start new l whole (f.alike ∙ sym g.same) (copy_made side (ready_over source first start) f.way all grown_here)
+
+      pub filled_full : Stuck (nodes_in new) (shape_in spare) l (together (nodes_in spare) (shape_in spare) l kids) → Stuck (nodes_in new) shape l whole
+      filled_full s = copy_full side (ready_over source first start) f.way all (subst (λ n. Stuck (nodes_in new) n l (together (nodes_in spare) n l kids)) (sym f.alike) s)
+
+      pub still_moved : Moved (nodes_in source) (nodes_in new) shape moved
+      still_moved = moved_kept moved f.way.grows.store grown_here f.noted
+
+      module _ (m : Edge) (st : Stands (nodes_in new) (shape_in spare) l (together (nodes_in spare) (shape_in spare) l kids) m) where
+        stands_here : Stands (nodes_in new) shape l (aim (nodes_in source) shape l e) m
+        stands_here = made_aim side (ready_over source first start) f.way all (nodes_in new) m (subst (λ n. Stands (nodes_in new) n l (together (nodes_in spare) n l kids) m) (sym f.alike) st)
+
+        pub filled_stands : Stands (nodes_in new) shape l whole (record { weight = e.weight; child = m.child })
+        filled_stands = copy_stands side grown_here.store m stands_here
+
+        pub filled_noted : (after : List (Option ℕ)) → Noted moved after e.child m.child → Moved (nodes_in source) (nodes_in new) shape after
+        filled_noted after noted = moved_noted moved after m side grown_here.store still_moved stands_here noted

@@ -1,20 +1,12 @@
-ghost use Rattle.std.specs.Prelude.{◌≡◌};
-ghost use Rattle.table.specs.Tables.{slot, Empty};
+ghost use Rattle.table.specs.Tables.{Empty};
 ghost use Rattle.collect.specs.Copies.{Noted};
-
-/// The slot to which the node in a slot was copied, if it was.
-pub fn moved_to(moved: &[Option<u16>], i: u16) -> Option<u16>
-    ensures { result ≡ slot moved.now i }
-{
-    let i = i as usize;
-    if i < moved.len() { moved[i] } else { None }
-}
 
 /// Notes to which slot the node in a slot was copied.
 pub fn note(moved: &mut [Option<u16>], i: u16, to: u16)
     ensures { Noted moved.old moved.new i to }
 {
-    let i = i as usize;
+    let i = usize::from(i);
+    // By index: of what is written through `get_mut` a proof knows the slice's length alone.
     if i < moved.len() {
         moved[i] = Some(to);
     }
@@ -24,7 +16,5 @@ pub fn note(moved: &mut [Option<u16>], i: u16, to: u16)
 pub fn forget(moved: &mut [Option<u16>])
     ensures { Empty moved.new }
 {
-    for m in moved.iter_mut() {
-        *m = None;
-    }
+    moved.fill(None);
 }

@@ -1,61 +1,24 @@
 -- What hanging a chart leaves of a diagram shelf. Assumes nothing.
-use Rattle.std.proofs.Common.{◌≡◌, ℕ, Bool, true, false, ltb, List, length, set, Some, Option, sym, ap, subst}
-use mathlib.Core.Logic.{∥∥₁_elim}
+use Rattle.std.proofs.Common.{ℕ, List, length, Some, None, Option, sym, refl}
+use Rattle.std.specs.Option.{ok_or}
 use Rattle.std.proofs.lemmas.Bool.{le-ltb, lt-ltb}
 use Rattle.nodes.specs.declared.edge.Edge.{Edge}
-use Rattle.nodes.specs.declared.node.Node.{Node}
-use Rattle.nodes.specs.declared.remembered.Remembered.{Remembered}
 use Rattle.model.specs.Charts.{Chart}
-use Rattle.model.specs.Scenes.{Shape}
-use Rattle.model.specs.Shelves.{Meaning, Pegs, diagram_fill}
-use Rattle.memo.specs.Results.{Knows}
-use Rattle.pegs.specs.Held.{pegs_of, Held}
-use Rattle.hang.specs.Tasks.{Allowed, made, Told}
-use Rattle.hang.specs.declared.task.Task.{Task}
-use Rattle.memo.specs.Once.{knows_prop}
-use Rattle.diagram.proofs.Once.{held_prop}
+use Rattle.model.specs.Shelves.{diagram_fill}
+use Rattle.build.specs.Grew.{nodes_in, shape_in}
+use Rattle.build.specs.declared.node_store.NodeStore.{NodeStore}
+use Rattle.pegs.specs.Held.{pegs_in, Alike}
+use Rattle.hang.specs.Tasks.{Told}
+use Rattle.shelf.specs.declared.fault.ShelfFault.TheVariants.{NoRoom}
+use Rattle.diagram.specs.Means.{meaning_of, Hung}
 
-pub held_in : (xs ys : List (Option Node)) (ns ms : Shape) (pegs : List (Option Edge)) → xs ≡ ys → ns ≡ ms → ∥ Held ys ms pegs ∥₁ → Held xs ns pegs
-held_in xs ys ns ms pegs p q h =
-    let u = sym p in
-    let v = sym q in
-    coe 0 1 (i. Held (u i) (v i) pegs) (∥∥₁_elim h (held_prop ys ms pegs) (λ x. x))
-
-pub knows_in : (xs ys : List (Option Node)) (ns ms : Shape) (memo mems : List (Option Remembered)) → xs ≡ ys → ns ≡ ms → memo ≡ mems → ∥ Knows ys ms mems ∥₁ → Knows xs ns memo
-knows_in xs ys ns ms memo mems p q r h =
-    let u = sym p in
-    let v = sym q in
-    let w = sym r in
-    coe 0 1 (i. Knows (u i) (v i) (w i)) (∥∥₁_elim h (knows_prop ys ms mems) (λ x. x))
-
-pub held_out : (xs ys : List (Option Node)) (ns ms : Shape) (pegs : List (Option Edge)) → ys ≡ xs → ns ≡ ms → Held xs ns pegs → ∥ Held ys ms pegs ∥₁
-held_out xs ys ns ms pegs p q h = let u = sym p in ∣ coe 0 1 (i. Held (u i) (q i) pegs) h ∣₁
-
-pub knows_out : (xs ys : List (Option Node)) (ns ms : Shape) (memo mems : List (Option Remembered)) → ys ≡ xs → ns ≡ ms → mems ≡ memo → Knows xs ns memo → ∥ Knows ys ms mems ∥₁
-knows_out xs ys ns ms memo mems p q r h = let u = sym p in let w = sym r in ∣ coe 0 1 (i. Knows (u i) (q i) (w i)) h ∣₁
-
-pub allowed_in : (xs ys : List (Option Node)) (ns ms : Shape) (pegs : List (Option Edge)) (task : Task) → xs ≡ ys → ns ≡ ms → Allowed ms (pegs_of ys ms pegs) task → Allowed ns (pegs_of xs ns pegs) task
-allowed_in xs ys ns ms pegs task p q h = let u = sym p in let v = sym q in coe 0 1 (i. Allowed (v i) (pegs_of (u i) (v i) pegs) task) h
-
--- the meaning with some pegs
-abbrev pub meant : Shape → ℕ → Pegs → Meaning
-meant ns cap ps = record { shape = ns; capacity = cap; fill = diagram_fill ns; pegs = ps }
-
-module _ (xs ys new mew : List (Option Node)) (ns ms : Shape) (pegs after : List (Option Edge)) (task : Task) (t cap : ℕ) (r : Bool) (p : xs ≡ ys) (q : ns ≡ ms) (u : mew ≡ new) (len : length xs ≡ cap) (told : Told (length xs) ns (pegs_of xs ns pegs) (pegs_of new ns after) (made ns (pegs_of xs ns pegs) task) t r) where
-  abbrev chart : List (Option Node) → Shape → Chart
-  chart zs ls = made ls (pegs_of zs ls pegs) task
-
-  told_at : Told cap ms (pegs_of ys ms pegs) (pegs_of mew ms after) (chart ys ms) t r
-  told_at =
-      let w = sym u in
-      coe 0 1 (i. Told (len i) (q i) (pegs_of (p i) (q i) pegs) (pegs_of (w i) (q i) after) (chart (p i) (q i)) t r) told
-
-  pub hung_true : r ≡ true → (ltb cap (diagram_fill ms (pegs_of ys ms pegs) (chart ys ms)) ≡ false) × (meant ms cap (pegs_of mew ms after) ≡ meant ms cap (set (pegs_of ys ms pegs) t (Some (chart ys ms))))
-  hung_true h =
-      let s = subst (Told cap ms (pegs_of ys ms pegs) (pegs_of mew ms after) (chart ys ms) t) h told_at in
-      (le-ltb cap (diagram_fill ms (pegs_of ys ms pegs) (chart ys ms)) s.0, ap (meant ms cap) s.1)
-
-  pub hung_false : r ≡ false → (ltb cap (diagram_fill ms (pegs_of ys ms pegs) (chart ys ms)) ≡ true) × (meant ms cap (pegs_of mew ms after) ≡ meant ms cap (pegs_of ys ms pegs))
-  hung_false h =
-      let s = subst (Told cap ms (pegs_of ys ms pegs) (pegs_of mew ms after) (chart ys ms) t) h told_at in
-      (lt-ltb cap (diagram_fill ms (pegs_of ys ms pegs) (chart ys ms)) s.0, ap (meant ms cap) s.1)
+module _ (old new : NodeStore) (pegs after : List (Option Edge)) (kept : Alike old new) (c : Chart) (t : ℕ) where
+  pub hung : (r : Option (Unit {0})) → Told (length (nodes_in old)) (shape_in old) (pegs_in old pegs) (pegs_in new after) c t r → Hung (meaning_of old pegs) (meaning_of new after) t c (ok_or r NoRoom)
+  hung (Some _) h =
+      let p = sym kept.shape in
+      let q = h.1 in
+      (le-ltb (length (nodes_in old)) (diagram_fill (shape_in old) (pegs_in old pegs) c) h.0, λ i. record { shape = p i; capacity = kept.size i; fill = diagram_fill (p i); pegs = q i })
+  hung None h =
+      let p = sym kept.shape in
+      let q = h.1 in
+      (refl, lt-ltb (length (nodes_in old)) (diagram_fill (shape_in old) (pegs_in old pegs) c) h.0, λ i. record { shape = p i; capacity = kept.size i; fill = diagram_fill (p i); pegs = q i })

@@ -1,4 +1,3 @@
--- what a diagram shelf keeps has at most one proof: Once; what hanging leaves: Hanging; what a call answers: Calling
-pub mod Once
+-- what hanging leaves: Hanging; what a call answers: Calling
 pub mod Hanging
 pub mod Calling

@@ -1,29 +1,25 @@
-ghost use Rattle.std.specs.Prelude.{◌≡◌, length, vec_len};
-ghost use Rattle.shelf.specs.Shapes.{shape_of};
-ghost use Rattle.memo.specs.Results.{Knows};
-ghost use Rattle.pegs.specs.Held.{Held};
+ghost use Rattle.std.specs.Prelude.{◌≡◌, length};
+ghost use Rattle.lists.specs.declared.limits.TheConstants.{PEGS};
+ghost use Rattle.pegs.specs.Held.{Alike, Held};
+ghost use Rattle.diagram.specs.Once.{alike_prop, held_prop};
 
+use build::node_store::NodeStore;
 use lists::limits::PEGS;
+use memo::diagrams::Diagrams;
 use nodes::edge::Edge;
-use nodes::node::Node;
-use nodes::remembered::Remembered;
-use shelf::shape::Shape;
 
 /// A shelf whose charts share the nodes of one store.
 ///
-/// `nodes` is the unique table, `memo` the computed table; `spare` and `moved` are for collecting.
+/// `spare` and `moved` are for collecting.
 #[derive(Drop)]
 pub struct DiagramShelf {
-    shape: Shape,
-    nodes: Vec<Option<Node>>,
-    spare: Vec<Option<Node>>,
+    diagrams: Diagrams,
+    spare: NodeStore,
     moved: Vec<Option<u16>>,
-    memo: Vec<Option<Remembered>>,
     pegs: [Option<Edge>; PEGS],
-    ghost eight: { length pegs ≡ 8 },
-    ghost size: { vec_len spare ≡ vec_len nodes },
-    ghost held: { ∥ Held nodes.items (shape_of shape) pegs ∥₁ },
-    ghost knows: { ∥ Knows nodes.items (shape_of shape) memo.items ∥₁ },
+    ghost eight: { length pegs ≡ PEGS },
+    ghost alike: { Alike diagrams.store spare } by { alike_prop diagrams.store spare },
+    ghost held: { Held diagrams.store pegs } by { held_prop diagrams.store pegs },
 }
 
 pub mod hanging;

@@ -4,13 +4,13 @@
 ghost use Rattle.std.specs.Prelude.{◌≡◌, ◌-◌, ◌<◌, ◌≤◌, false, map, length, take, drop, slice_index};
 ghost use Rattle.model.specs.Charts.{dialled, late};
 ghost use Rattle.model.specs.Lists.{some};
-ghost use Rattle.model.specs.Scenes.{scenes};
-ghost use Rattle.build.specs.Builds.{Ready, Grows, Built};
-ghost use Rattle.dials.specs.Flats.{flat};
+ghost use Rattle.store.specs.Stores.{chart, Fine};
+ghost use Rattle.build.specs.Builds.{Built};
+ghost use Rattle.build.specs.Grew.{nodes_in, shape_in, Grew};
+ghost use Rattle.dials.specs.Flats.{flat, lifted};
 
-use build::make::{make, spread};
+use build::node_store::NodeStore;
 use nodes::edge::Edge;
-use nodes::node::Node;
 
 /// An edge that is never throughout, past a device's last setting.
 const NO_EDGE: Edge = Edge {
@@ -18,68 +18,66 @@ const NO_EDGE: Edge = Edge {
     child: 0,
 };
 
-/// The edge whose chart has one entry throughout.
-pub fn constant(
-    nodes: &mut [Option<Node>],
-    settings: &[u8],
-    level: usize,
-    entry: Option<u64>,
-) -> Option<Edge>
-    requires depth { level ≤ length settings.now }
-    requires ready { Ready nodes.old settings.now }
-    requires timely { late entry ≡ false }
-    ensures grows { Grows nodes.old nodes.new settings.now level (flat (drop level settings.now) entry) }
-    ensures built { Built nodes.new settings.now level (flat (drop level settings.now) entry) result }
+/// The edge of a level whose chart gives a scene what the chart of `e`, an edge of the level `from`, gives it, or none
+/// where no slot is free for a part of it.
+fn lift(store: &mut NodeStore, level: usize, from: usize, e: Edge) -> Option<Edge>
+    requires above { level ≤ from }
+    requires depth { from ≤ length (shape_in store.old) }
+    requires fine { Fine (nodes_in store.old) (drop from (shape_in store.old)) from e }
+    requires timely { some late (chart (nodes_in store.old) (drop from (shape_in store.old)) e) ≡ false }
+    ensures grew { Grew store.old store.new level (lifted (shape_in store.old) level (from - level) (chart (nodes_in store.old) (drop from (shape_in store.old)) e)) }
+    ensures built { Built (nodes_in store.new) (shape_in store.old) level (lifted (shape_in store.old) level (from - level) (chart (nodes_in store.old) (drop from (shape_in store.old)) e)) result }
 {
-    if level == settings.len() {
-        return Some(Edge {
-            weight: entry,
-            child: 0,
-        });
+    if level == from {
+        return Some(e);
     }
-    let kid = constant(nodes, settings, level + 1, entry)?;
-    spread(nodes, settings, level, kid)
+    let kid = lift(store, level + 1, from, e)?;
+    store.spread(level, kid)
+}
+
+/// The edge whose chart has one entry throughout.
+pub fn constant(store: &mut NodeStore, level: usize, entry: Option<u64>) -> Option<Edge>
+    requires depth { level ≤ length (shape_in store.old) }
+    requires timely { late entry ≡ false }
+    ensures grew { Grew store.old store.new level (flat (drop level (shape_in store.old)) entry) }
+    ensures built { Built (nodes_in store.new) (shape_in store.old) level (flat (drop level (shape_in store.old)) entry) result }
+{
+    let leaf = Edge {
+        weight: entry,
+        child: 0,
+    };
+    let devices = store.devices();
+    lift(store, level, devices, leaf)
 }
 
 /// The edge of a level whose chart gives each setting of its device an entry.
-fn fan(
-    nodes: &mut [Option<Node>],
-    settings: &[u8],
-    level: usize,
-    entries: &[Option<u64>; 8],
-) -> Option<Edge>
-    requires depth { level < length settings.now }
-    requires ready { Ready nodes.old settings.now }
-    requires timely { some late (take (slice_index settings.now level) entries.now) ≡ false }
-    ensures grows { Grows nodes.old nodes.new settings.now level (dialled (drop level settings.now) 0 entries.now) }
-    ensures built { Built nodes.new settings.now level (dialled (drop level settings.now) 0 entries.now) result }
+fn fan(store: &mut NodeStore, level: usize, entries: &[Option<u64>; 8]) -> Option<Edge>
+    requires depth { level < length (shape_in store.old) }
+    requires timely { some late (take (slice_index (shape_in store.old) level) entries.now) ≡ false }
+    ensures grew { Grew store.old store.new level (dialled (drop level (shape_in store.old)) 0 entries.now) }
+    ensures built { Built (nodes_in store.new) (shape_in store.old) level (dialled (drop level (shape_in store.old)) 0 entries.now) result }
 {
-    let count = usize::from(settings[level]);
+    let count = store.count(level);
     let mut kids = [NO_EDGE; 8];
     for (i, entry) in entries[..count].iter().enumerate() {
-        kids[i] = constant(nodes, settings, level + 1, *entry)?;
+        kids[i] = constant(store, level + 1, *entry)?;
     }
-    make(nodes, settings, level, kids)
+    store.make(level, kids)
 }
 
 /// The edge whose chart gives a scene the entry of the device's setting, or none where no slot is free for a part of it.
 pub fn dial(
-    nodes: &mut [Option<Node>],
-    settings: &[u8],
+    store: &mut NodeStore,
     level: usize,
     device: usize,
     entries: &[Option<u64>; 8],
 ) -> Option<Edge>
     requires above { level ≤ device }
-    requires depth { device < length settings.now }
-    requires ready { Ready nodes.old settings.now }
-    requires timely { some late (take (slice_index settings.now device) entries.now) ≡ false }
-    ensures grows { Grows nodes.old nodes.new settings.now level (dialled (drop level settings.now) (device - level) entries.now) }
-    ensures built { Built nodes.new settings.now level (dialled (drop level settings.now) (device - level) entries.now) result }
+    requires depth { device < length (shape_in store.old) }
+    requires timely { some late (take (slice_index (shape_in store.old) device) entries.now) ≡ false }
+    ensures grew { Grew store.old store.new level (dialled (drop level (shape_in store.old)) (device - level) entries.now) }
+    ensures built { Built (nodes_in store.new) (shape_in store.old) level (dialled (drop level (shape_in store.old)) (device - level) entries.now) result }
 {
-    if level == device {
-        return fan(nodes, settings, level, entries);
-    }
-    let kid = dial(nodes, settings, level + 1, device, entries)?;
-    spread(nodes, settings, level, kid)
+    let fanned = fan(store, device, entries)?;
+    lift(store, level, device, fanned)
 }

@@ -1,5 +1,5 @@
 -- What is to be hung on a peg, when it may be, and what comes of it. Assumes nothing.
-use Rattle.std.specs.Prelude.{◌≡◌, ℕ, ◌<◌, ◌≤◌, Bool, true, false, List, length, take, Some, Option, slice_index, slice_set}
+use Rattle.std.specs.Prelude.{◌≡◌, ℕ, ◌<◌, ◌≤◌, false, List, length, take, Some, None, Option, slice_index, slice_set}
 use Rattle.nodes.specs.declared.node.Node.{Node}
 use Rattle.nodes.specs.declared.remembered.Op.TheVariants.{Cheaper, Sum}
 use Rattle.model.specs.Charts.{Chart, zipped, dialled, put_chart, late}
@@ -31,11 +31,11 @@ Allowed ns ps (Join op a b) = (bare ps a ≡ false) × (bare ps b ≡ false) × 
 Allowed ns ps (Put a v d) = (bare ps a ≡ false) × (v < length ns) × (d < slice_index ns v)
 
 -- what hanging answers, and the pegs before and after: no room exactly where the fill exceeds the slots
-abbrev pub Told : ℕ → Shape → Pegs → Pegs → Chart → ℕ → Bool → Type 0
-Told slots shape before after c target true = (diagram_fill shape before c ≤ slots) × (after ≡ slice_set before target (Some c))
-Told slots shape before after c target false = (slots < diagram_fill shape before c) × (after ≡ before)
+abbrev pub Told : ℕ → Shape → Pegs → Pegs → Chart → ℕ → Option (Unit {0}) → Type 0
+Told slots shape before after c target (Some _) = (diagram_fill shape before c ≤ slots) × (after ≡ slice_set before target (Some c))
+Told slots shape before after c target None = (slots < diagram_fill shape before c) × (after ≡ before)
 
 -- the same of one attempt, which knows the fill only where the store has no more than the pegs' parts
-abbrev pub Tried : List (Option Node) → Shape → Pegs → Pegs → Chart → ℕ → Bool → Type 0
-Tried nodes shape before after c target true = (diagram_fill shape before c ≤ length nodes) × (after ≡ slice_set before target (Some c))
-Tried nodes shape before after c target false = (Owned nodes shape (charts before) → length nodes < diagram_fill shape before c) × (after ≡ before)
+abbrev pub Tried : List (Option Node) → Shape → Pegs → Pegs → Chart → ℕ → Option (Unit {0}) → Type 0
+Tried nodes shape before after c target (Some _) = (diagram_fill shape before c ≤ length nodes) × (after ≡ slice_set before target (Some c))
+Tried nodes shape before after c target None = (Owned nodes shape (charts before) → length nodes < diagram_fill shape before c) × (after ≡ before)

@@ -1,118 +1,88 @@
-ghost use Rattle.std.specs.Prelude.{◌≡◌, ◌<◌, length, None, slice_index_or};
-ghost use Rattle.build.specs.Builds.{Grows, Built};
-ghost use Rattle.memo.specs.Results.{Knows};
-ghost use Rattle.pegs.specs.Held.{Held, pegs_of};
+ghost use Rattle.std.specs.Prelude.{◌≡◌, ◌<◌, length};
+ghost use Rattle.build.specs.Builds.{Built};
+ghost use Rattle.build.specs.Grew.{nodes_in, shape_in, Grew};
+ghost use Rattle.pegs.specs.Held.{Held, pegs_in, Alike};
 ghost use Rattle.hang.specs.Tasks.{Allowed, made, Tried};
 
 use crate::task::Task;
 use apply::join::join;
 use dials::dial;
+use memo::diagrams::Diagrams;
 use nodes::edge::Edge;
-use nodes::node::Node;
-use nodes::remembered::{Op, Remembered};
+use nodes::remembered::Op;
 use puts::put;
-
-/// What a peg carries; one that is not there is bare.
-pub fn peg_at(pegs: &[Option<Edge>], i: u8) -> Option<Edge>
-    ensures { result ≡ slice_index_or pegs.now i None }
-{
-    let i = i as usize;
-    if i < pegs.len() { pegs[i] } else { None }
-}
+use table::slots::taken;
 
 /// The edge of two pegs joined.
 fn join_pegs(
+    diagrams: &mut Diagrams,
     op: Op,
-    a: u8,
-    b: u8,
-    nodes: &mut [Option<Node>],
-    memo: &mut [Option<Remembered>],
-    settings: &[u8],
+    left: u8,
+    right: u8,
     pegs: &[Option<Edge>],
 ) -> Option<Edge>
-    requires held { Held nodes.old settings.now pegs.now }
-    requires knows { Knows nodes.old settings.now memo.old }
-    requires allowed { Allowed settings.now (pegs_of nodes.old settings.now pegs.now) (Task.Join op a b) }
-    ensures grows { Grows nodes.old nodes.new settings.now 0 (made settings.now (pegs_of nodes.old settings.now pegs.now) (Task.Join op a b)) }
-    ensures knows { Knows nodes.new settings.now memo.new }
-    ensures built { Built nodes.new settings.now 0 (made settings.now (pegs_of nodes.old settings.now pegs.now) (Task.Join op a b)) result }
+    requires held { Held diagrams.old.store pegs.now }
+    requires allowed { Allowed (shape_in diagrams.old.store) (pegs_in diagrams.old.store pegs.now) (Task.Join op left right) }
+    ensures grew { Grew diagrams.old.store diagrams.new.store 0 (made (shape_in diagrams.old.store) (pegs_in diagrams.old.store pegs.now) (Task.Join op left right)) }
+    ensures built { Built (nodes_in diagrams.new.store) (shape_in diagrams.old.store) 0 (made (shape_in diagrams.old.store) (pegs_in diagrams.old.store pegs.now) (Task.Join op left right)) result }
 {
-    let Some(x) = peg_at(pegs, a) else {
-        return None;
-    };
-    let Some(y) = peg_at(pegs, b) else {
-        return None;
-    };
-    join(op, nodes, memo, settings, 0, x, y)
+    let x = taken(pegs, usize::from(left))?;
+    let y = taken(pegs, usize::from(right))?;
+    join(diagrams, op, 0, x, y)
 }
 
 /// The edge of a peg once a device is at a setting.
 fn put_peg(
-    a: u8,
+    diagrams: &mut Diagrams,
+    peg: u8,
     device: u8,
     setting: u8,
-    nodes: &mut [Option<Node>],
-    memo: &mut [Option<Remembered>],
-    settings: &[u8],
     pegs: &[Option<Edge>],
 ) -> Option<Edge>
-    requires held { Held nodes.old settings.now pegs.now }
-    requires knows { Knows nodes.old settings.now memo.old }
-    requires allowed { Allowed settings.now (pegs_of nodes.old settings.now pegs.now) (Task.Put a device setting) }
-    ensures grows { Grows nodes.old nodes.new settings.now 0 (made settings.now (pegs_of nodes.old settings.now pegs.now) (Task.Put a device setting)) }
-    ensures knows { Knows nodes.new settings.now memo.new }
-    ensures built { Built nodes.new settings.now 0 (made settings.now (pegs_of nodes.old settings.now pegs.now) (Task.Put a device setting)) result }
+    requires held { Held diagrams.old.store pegs.now }
+    requires allowed { Allowed (shape_in diagrams.old.store) (pegs_in diagrams.old.store pegs.now) (Task.Put peg device setting) }
+    ensures grew { Grew diagrams.old.store diagrams.new.store 0 (made (shape_in diagrams.old.store) (pegs_in diagrams.old.store pegs.now) (Task.Put peg device setting)) }
+    ensures built { Built (nodes_in diagrams.new.store) (shape_in diagrams.old.store) 0 (made (shape_in diagrams.old.store) (pegs_in diagrams.old.store pegs.now) (Task.Put peg device setting)) result }
 {
-    let Some(e) = peg_at(pegs, a) else {
-        return None;
-    };
-    put(nodes, memo, settings, 0, device, setting, e)
+    let e = taken(pegs, usize::from(peg))?;
+    put(diagrams, 0, device, setting, e)
 }
 
 /// The edge of the chart to be hung, or none where no slot is free for one of its parts.
-fn attempt(
-    task: Task,
-    nodes: &mut [Option<Node>],
-    memo: &mut [Option<Remembered>],
-    settings: &[u8],
-    pegs: &[Option<Edge>],
-) -> Option<Edge>
-    requires held { Held nodes.old settings.now pegs.now }
-    requires knows { Knows nodes.old settings.now memo.old }
-    requires allowed { Allowed settings.now (pegs_of nodes.old settings.now pegs.now) (task) }
-    ensures grows { Grows nodes.old nodes.new settings.now 0 (made settings.now (pegs_of nodes.old settings.now pegs.now) (task)) }
-    ensures knows { Knows nodes.new settings.now memo.new }
-    ensures built { Built nodes.new settings.now 0 (made settings.now (pegs_of nodes.old settings.now pegs.now) (task)) result }
+fn attempt(task: Task, diagrams: &mut Diagrams, pegs: &[Option<Edge>]) -> Option<Edge>
+    requires held { Held diagrams.old.store pegs.now }
+    requires allowed { Allowed (shape_in diagrams.old.store) (pegs_in diagrams.old.store pegs.now) task }
+    ensures grew { Grew diagrams.old.store diagrams.new.store 0 (made (shape_in diagrams.old.store) (pegs_in diagrams.old.store pegs.now) task) }
+    ensures built { Built (nodes_in diagrams.new.store) (shape_in diagrams.old.store) 0 (made (shape_in diagrams.old.store) (pegs_in diagrams.old.store pegs.now) task) result }
 {
     match task {
-        Task::Dial(device, entries) => dial(nodes, settings, 0, device as usize, &entries),
-        Task::Join(op, a, b) => join_pegs(op, a, b, nodes, memo, settings, pegs),
-        Task::Put(a, device, setting) => put_peg(a, device, setting, nodes, memo, settings, pegs),
+        Task::Dial { device, entries } => {
+            dial(&mut diagrams.store, 0, usize::from(device), &entries)
+        }
+        Task::Join { op, left, right } => join_pegs(diagrams, op, left, right, pegs),
+        Task::Put {
+            peg,
+            device,
+            setting,
+        } => put_peg(diagrams, peg, device, setting, pegs),
     }
 }
 
-/// Hangs the chart on a peg, unless no slot is free for one of its parts.
+/// Hangs the chart on a peg, or none where no slot is free for one of its parts.
 pub fn try_to_hang(
     task: Task,
-    nodes: &mut [Option<Node>],
-    memo: &mut [Option<Remembered>],
-    settings: &[u8],
+    diagrams: &mut Diagrams,
     pegs: &mut [Option<Edge>],
     target: usize,
-) -> bool
-    requires held { Held nodes.old settings.now pegs.old }
-    requires knows { Knows nodes.old settings.now memo.old }
-    requires allowed { Allowed settings.now (pegs_of nodes.old settings.now pegs.old) task }
+) -> Option<()>
+    requires held { Held diagrams.old.store pegs.old }
+    requires allowed { Allowed (shape_in diagrams.old.store) (pegs_in diagrams.old.store pegs.old) task }
     requires target { target < length pegs.old }
-    ensures held { Held nodes.new settings.now pegs.new }
-    ensures knows { Knows nodes.new settings.now memo.new }
-    ensures tried { Tried nodes.old settings.now (pegs_of nodes.old settings.now pegs.old) (pegs_of nodes.new settings.now pegs.new) (made settings.now (pegs_of nodes.old settings.now pegs.old) task) target result }
+    ensures kept { Alike diagrams.old.store diagrams.new.store }
+    ensures held { Held diagrams.new.store pegs.new }
+    ensures tried { Tried (nodes_in diagrams.old.store) (shape_in diagrams.old.store) (pegs_in diagrams.old.store pegs.old) (pegs_in diagrams.new.store pegs.new) (made (shape_in diagrams.old.store) (pegs_in diagrams.old.store pegs.old) task) target result }
 {
-    match attempt(task, nodes, memo, settings, pegs) {
-        Some(e) => {
-            pegs[target] = Some(e);
-            true
-        }
-        None => false,
-    }
+    let e = attempt(task, diagrams, pegs)?;
+    pegs[target] = Some(e);
+    Some(())
 }

@@ -1,63 +1,58 @@
 ghost use Rattle.std.specs.Prelude.{◌≡◌, ◌<◌, length};
 ghost use Rattle.model.specs.Shelves.{charts};
 ghost use Rattle.store.specs.Fillings.{Owned};
-ghost use Rattle.memo.specs.Results.{Knows};
-ghost use Rattle.pegs.specs.Held.{Held, pegs_of};
+ghost use Rattle.build.specs.Grew.{nodes_in, shape_in};
+ghost use Rattle.pegs.specs.Held.{Held, pegs_in, Alike};
 ghost use Rattle.hang.specs.Tasks.{Allowed, made, Told};
 
 use crate::attempt::try_to_hang;
 use crate::task::Task;
+use build::node_store::NodeStore;
+use memo::diagrams::Diagrams;
 use nodes::edge::Edge;
-use nodes::node::Node;
-use nodes::remembered::Remembered;
 use pegs::sweep::sweep;
-use table::slots::clear;
 
 /// Keeps what the pegs reach and nothing else, and forgets remembered results.
 fn collect(
-    nodes: &mut [Option<Node>],
-    spare: &mut [Option<Node>],
+    diagrams: &mut Diagrams,
+    spare: &mut NodeStore,
     moved: &mut [Option<u16>],
-    memo: &mut [Option<Remembered>],
-    settings: &[u8],
     pegs: &mut [Option<Edge>],
 )
-    requires held { Held nodes.old settings.now pegs.old }
-    requires size { length spare.old ≡ length nodes.old }
-    ensures held { Held nodes.new settings.now pegs.new }
-    ensures knows { Knows nodes.new settings.now memo.new }
-    ensures same { pegs_of nodes.new settings.now pegs.new ≡ pegs_of nodes.old settings.now pegs.old }
-    ensures owned { Owned nodes.new settings.now (charts (pegs_of nodes.old settings.now pegs.old)) }
+    requires held { Held diagrams.old.store pegs.old }
+    requires alike { Alike diagrams.old.store spare.old }
+    ensures kept { Alike diagrams.old.store diagrams.new.store }
+    ensures alike { Alike diagrams.new.store spare.new }
+    ensures held { Held diagrams.new.store pegs.new }
+    ensures same { pegs_in diagrams.new.store pegs.new ≡ pegs_in diagrams.old.store pegs.old }
+    ensures owned { Owned (nodes_in diagrams.new.store) (shape_in diagrams.old.store) (charts (pegs_in diagrams.old.store pegs.old)) }
 {
-    sweep(nodes, spare, moved, settings, pegs);
-    nodes.copy_from_slice(spare);
-    clear(memo);
+    sweep(&diagrams.store, spare, moved, pegs);
+    diagrams.exchange(spare);
 }
 
-/// Hangs a chart on a peg. Where the store is full it is collected, and the chart is tried once more; full again is no
-/// room, and every peg is as it was.
+/// Hangs a chart on a peg. Where the store is full it is collected, and the chart is tried once more; none where it is
+/// full again, and every peg is as it was.
 pub fn hang(
     task: Task,
-    nodes: &mut [Option<Node>],
-    spare: &mut [Option<Node>],
+    diagrams: &mut Diagrams,
+    spare: &mut NodeStore,
     moved: &mut [Option<u16>],
-    memo: &mut [Option<Remembered>],
-    settings: &[u8],
     pegs: &mut [Option<Edge>],
     target: usize,
-) -> bool
-    requires held { Held nodes.old settings.now pegs.old }
-    requires knows { Knows nodes.old settings.now memo.old }
-    requires allowed { Allowed settings.now (pegs_of nodes.old settings.now pegs.old) task }
+) -> Option<()>
+    requires held { Held diagrams.old.store pegs.old }
+    requires allowed { Allowed (shape_in diagrams.old.store) (pegs_in diagrams.old.store pegs.old) task }
     requires target { target < length pegs.old }
-    requires size { length spare.old ≡ length nodes.old }
-    ensures held { Held nodes.new settings.now pegs.new }
-    ensures knows { Knows nodes.new settings.now memo.new }
-    ensures told { Told (length nodes.old) settings.now (pegs_of nodes.old settings.now pegs.old) (pegs_of nodes.new settings.now pegs.new) (made settings.now (pegs_of nodes.old settings.now pegs.old) task) target result }
+    requires alike { Alike diagrams.old.store spare.old }
+    ensures kept { Alike diagrams.old.store diagrams.new.store }
+    ensures alike { Alike diagrams.new.store spare.new }
+    ensures held { Held diagrams.new.store pegs.new }
+    ensures told { Told (length (nodes_in diagrams.old.store)) (shape_in diagrams.old.store) (pegs_in diagrams.old.store pegs.old) (pegs_in diagrams.new.store pegs.new) (made (shape_in diagrams.old.store) (pegs_in diagrams.old.store pegs.old) task) target result }
 {
-    if try_to_hang(task, nodes, memo, settings, pegs, target) {
-        return true;
+    if try_to_hang(task, diagrams, pegs, target).is_some() {
+        return Some(());
     }
-    collect(nodes, spare, moved, memo, settings, pegs);
-    try_to_hang(task, nodes, memo, settings, pegs, target)
+    collect(diagrams, spare, moved, pegs);
+    try_to_hang(task, diagrams, pegs, target)
 }

@@ -1,10 +1,10 @@
 -- The steps of a sweep, over plain values. Assumes nothing.
-use Rattle.std.proofs.Common.{◌≡◌, ℕ, ◌+◌, ◌<◌, ◌≤◌, List, [], ◌∷◌, ◌++◌, map, length, get_or, take, drop, set, is_some, Some, None, Option, sym, refl, ap, ◌∙◌, subst, inl, inr, arith}
+use Rattle.std.proofs.Common.{◌≡◌, ℕ, ◌+◌, ◌<◌, ◌≤◌, List, [], ◌∷◌, ◌++◌, map, length, get_or, take, drop, set, Some, None, Option, sym, refl, ap, ◌∙◌, subst, inl, inr, arith}
 use mathlib.Core.List.{map-append}
 use Rattle.std.specs.List.{AllByRecursion, flat_map}
-use Rattle.std.proofs.lemmas.Bool.{both_ways}
-use Rattle.std.proofs.lemmas.List.{take_more, take_more_set, take_all, drop-drop, drop-set-lt, get_or-drop}
-use Rattle.table.specs.Tables.{slot, Kept, Empty}
+use Rattle.std.proofs.lemmas.List.Elements.{All-from_recursion, recursion_from_All, All-push}
+use Rattle.std.proofs.lemmas.List.{take_more, take_more_set, drop-drop, drop-set-lt, get_or-drop}
+use Rattle.table.specs.Tables.{Kept}
 use Rattle.nodes.specs.declared.edge.Edge.{Edge}
 use Rattle.nodes.specs.declared.node.Node.{Node}
 use Rattle.model.specs.Charts.{Chart, late}
@@ -18,9 +18,12 @@ use Rattle.store.specs.Stores.{chart, Fine, Store}
 use Rattle.store.specs.Fillings.{Stuck, Owned, name}
 use Rattle.store.proofs.Grows.{fine_kept, chart_kept, name_kept}
 use Rattle.store.proofs.Fits.{roomy, overfull}
-use Rattle.build.specs.Builds.{NodeTable, Ready, Grows, Built}
-use Rattle.build.proofs.Steps.{get_or_in, ready_after}
-use Rattle.pegs.specs.Held.{peg_chart, pegs_of, peg_fine, Held, Collected, CopiesPeg, Swept}
+use Rattle.build.specs.Builds.{Grows, Built}
+use Rattle.build.specs.Grew.{nodes_in, shape_in, Grew}
+use Rattle.build.specs.declared.node_store.NodeStore.{NodeStore}
+use Rattle.collect.proofs.Copying.{ready_over, grows_over}
+use Rattle.build.proofs.Steps.{get_or_in}
+use Rattle.pegs.specs.Held.{peg_chart, pegs_of, peg_fine, pegs_in, Held, CopiesPeg, Swept}
 
 -- Pegs
 
@@ -47,8 +50,11 @@ chart_in nodes shape (None ∷ ps) e (inr i) = chart_in nodes shape ps e i
 chart_in nodes shape (Some d ∷ ps) e (inl h) = inl (let z : e ≡ d = cc in ap (chart nodes shape) z)
 chart_in nodes shape (Some d ∷ ps) e (inr i) = inr (chart_in nodes shape ps e i)
 
-pub held_room : (nodes : List (Option Node)) (shape : Shape) (pegs : List (Option Edge)) → Held nodes shape pegs → parts_of_all shape (charts (pegs_of nodes shape pegs)) ≤ length nodes
-held_room nodes shape pegs held = subst (λ cs. parts_of_all shape cs ≤ length nodes) (sym (charts_on nodes shape pegs)) (roomy nodes shape held.ready.store (edges_on pegs) (fine_on nodes shape pegs held.fine))
+pub held_room : (store : NodeStore) (pegs : List (Option Edge)) → Held store pegs → parts_of_all (shape_in store) (charts (pegs_in store pegs)) ≤ length (nodes_in store)
+held_room store pegs held =
+    let nodes = nodes_in store in
+    let shape = shape_in store in
+    subst (λ cs. parts_of_all shape cs ≤ length nodes) (sym (charts_on nodes shape pegs)) (roomy nodes shape store.ready.store (edges_on pegs) (fine_on nodes shape pegs held.fine))
 
 map_all : {A B : Type 0} (f g : A → B) (xs : List A) → AllByRecursion (λ x. f x ≡ g x) xs → map f xs ≡ map g xs
 map_all f g [] a = refl
@@ -69,84 +75,76 @@ module _ (old new : List (Option Node)) (shape : Shape) (store : Store old shape
 
 -- The sweep
 
-pub swept_none : (source spare : List (Option Node)) (shape : Shape) (pegs : List (Option Edge)) → Held source shape pegs → length spare ≡ length source → NodeTable spare → Empty spare → Swept source spare shape pegs pegs 0
-swept_none source spare shape pegs held size table empty = record {
-  ready = record { table = table; store = record { apart = table.apart; proper = λ k x h. absurd (both_ways (is_some (slot spare k)) (ap is_some (empty k)) (ap is_some h)) }; small = subst (λ n. n ≤ 65536) (sym size) held.ready.small; some = held.ready.some; few = held.ready.few; short = held.ready.short };
-  size = size;
-  owned = λ k x h. absurd (both_ways (is_some (slot spare k)) (ap is_some (empty k)) (ap is_some h));
-  fine = tt;
-  same = refl;
-  rest = refl;
-  long = refl;
-}
+module _ (source spare new : NodeStore) (old pegs : List (Option Edge)) (i : ℕ) (held : Held source old) (il : i < length pegs) (w : Swept source spare old pegs i) where
+  abbrev shape : Shape
+  shape = shape_in source
 
-all_append : {A : Type 0} (P : A → Type 0) (xs : List A) (y : A) → AllByRecursion P xs → P y → AllByRecursion P (xs ++ y ∷ [])
-all_append P [] y a p = (p, tt)
-all_append P (x ∷ xs) y a p = (a.0, all_append P xs y a.1 p)
+  store : Store (nodes_in spare) shape
+  store = (ready_over source spare w.alike.shape).store
 
-module _ (source spare new : List (Option Node)) (shape : Shape) (old pegs : List (Option Edge)) (i : ℕ) (held : Held source shape old) (il : i < length pegs) (w : Swept source spare shape old pegs i) where
   next_is : get_or pegs i None ≡ get_or old i None
   next_is = ap (λ n. get_or pegs n None) (let z : i ≡ i + 0 = omega arith in z) ∙ sym (get_or-drop i pegs 0 None) ∙ ap (λ t. get_or t 0 None) w.rest ∙ get_or-drop i old 0 None ∙ ap (λ n. get_or old n None) (let z : i + 0 ≡ i = omega arith in z)
 
   next_old : In (get_or pegs i None) old
   next_old = subst (λ p. In p old) (sym next_is) (get_or_in old i None (omega (arith, il, w.long)))
 
-  pub next_fine : peg_fine source shape (get_or pegs i None)
-  next_fine = all_in (peg_fine source shape) (get_or pegs i None) old held.fine next_old
+  pub next_fine : peg_fine (nodes_in source) shape (get_or pegs i None)
+  next_fine = all_in (peg_fine (nodes_in source) shape) (get_or pegs i None) old held.fine next_old
 
   -- one peg more, given its copy in a store that has grown by its parts
-  more : (r : Option Edge) → Ready new shape → Kept spare new → length new ≡ length spare → Owned new shape (charts (pegs_of source shape old)) → peg_fine new shape r → peg_chart new shape r ≡ peg_chart source shape (get_or pegs i None) → Swept source new shape old (set pegs i r) (i + 1)
-  more r ready kept size owned fine is = record {
-    ready = ready;
-    size = size ∙ w.size;
-    owned = owned;
-    fine = subst (AllByRecursion (peg_fine new shape)) (sym (take_more_set pegs i r il)) (all_append (peg_fine new shape) (take i pegs) r (pegs_fine_kept spare new shape w.ready.store kept (take i pegs) w.fine) fine);
-    same =
-        ap (pegs_of new shape) (take_more_set pegs i r il) ∙ map-append (peg_chart new shape) (take i pegs) (r ∷ [])
-        ∙ ap (λ t. t ++ peg_chart new shape r ∷ []) (pegs_kept spare new shape w.ready.store kept (take i pegs) w.fine ∙ w.same)
-        ∙ ap (λ d. pegs_of source shape (take i old) ++ d ∷ []) (is ∙ ap (peg_chart source shape) next_is)
-        ∙ sym (ap (pegs_of source shape) (take_more old i None (omega (arith, il, w.long))) ∙ map-append (peg_chart source shape) (take i old) (get_or old i None ∷ []));
-    rest = drop-set-lt (i + 1) pegs i r (omega arith) ∙ sym (drop-drop 1 i pegs) ∙ ap (drop 1) w.rest ∙ drop-drop 1 i old;
-    long = lib.ListN.length-set pegs i r ∙ w.long;
-  }
+  more : (r : Option Edge) → shape ≡ shape_in new → Kept (nodes_in spare) (nodes_in new) → length (nodes_in new) ≡ length (nodes_in spare) → Owned (nodes_in new) shape (charts (pegs_in source old)) → peg_fine (nodes_in new) shape r → peg_chart (nodes_in new) shape r ≡ peg_chart (nodes_in source) shape (get_or pegs i None) → Swept source new old (set pegs i r) (i + 1)
+  more r alike kept size owned fine is =
+      let all = peg_fine (nodes_in new) shape in
+      let first = pegs_fine_kept (nodes_in spare) (nodes_in new) shape store kept (take i pegs) w.fine in
+      record {
+        alike = record { shape = alike; size = size ∙ w.alike.size };
+        owned = owned;
+        fine = subst (AllByRecursion all) (sym (take_more_set pegs i r il)) (recursion_from_All all (take i pegs ++ r ∷ []) (All-push all (take i pegs) r (All-from_recursion all (take i pegs) first) fine));
+        same =
+            ap (pegs_of (nodes_in new) shape) (take_more_set pegs i r il) ∙ map-append (peg_chart (nodes_in new) shape) (take i pegs) (r ∷ [])
+            ∙ ap (λ t. t ++ peg_chart (nodes_in new) shape r ∷ []) (pegs_kept (nodes_in spare) (nodes_in new) shape store kept (take i pegs) w.fine ∙ w.same)
+            ∙ ap (λ d. pegs_of (nodes_in source) shape (take i old) ++ d ∷ []) (is ∙ ap (peg_chart (nodes_in source) shape) next_is)
+            ∙ sym (ap (pegs_of (nodes_in source) shape) (take_more old i None (omega (arith, il, w.long))) ∙ map-append (peg_chart (nodes_in source) shape) (take i old) (get_or old i None ∷ []));
+        rest = drop-set-lt (i + 1) pegs i r (omega arith) ∙ sym (drop-drop 1 i pegs) ∙ ap (drop 1) w.rest ∙ drop-drop 1 i old;
+        long = lib.ListN.length-set pegs i r ∙ w.long;
+      }
 
-  module _ (e : Edge) (at : get_or pegs i None ≡ Some e) (g : Grows spare new shape 0 (chart source shape e)) where
-    e_in : In (chart source shape e) (charts (pegs_of source shape old))
-    e_in = chart_in source shape old e (subst (λ p. In p old) at next_old)
+  module _ (e : Edge) (at : get_or pegs i None ≡ Some e) (g : Grew spare new 0 (chart (nodes_in source) shape e)) where
+    still : shape ≡ shape_in new
+    still = w.alike.shape ∙ sym g.same
+
+    here : Grows (nodes_in spare) (nodes_in new) shape 0 (chart (nodes_in source) shape e)
+    here = grows_over source spare w.alike.shape new 0 (chart (nodes_in source) shape e) g
+
+    e_in : In (chart (nodes_in source) shape e) (charts (pegs_in source old))
+    e_in = chart_in (nodes_in source) shape old e (subst (λ p. In p old) at next_old)
 
     -- the source has room for all of them
-    never : Stuck new shape 0 (chart source shape e) → ⊥
+    never : Stuck (nodes_in new) shape 0 (chart (nodes_in source) shape e) → ⊥
     never s =
-        let more = overfull spare new shape w.ready.store g.store g.kept (charts (pegs_of source shape old)) (chart source shape e) e_in w.owned g.grown s in
-        let less = held_room source shape old held in
-        omega (arith, more, less, w.size, g.same)
+        let more = overfull (nodes_in spare) (nodes_in new) shape store here.store here.kept (charts (pegs_in source old)) (chart (nodes_in source) shape e) e_in w.owned here.grown s in
+        let less = held_room source old held in
+        omega (arith, more, less, w.alike.size, here.same)
 
-    owned_more : Owned new shape (charts (pegs_of source shape old))
-    owned_more k x h = elim (g.grown k x h) [
-      | inl q ↦ in_cast (name spare shape k) (name new shape k) (flat_map (parts shape 0) (charts (pegs_of source shape old))) (name_kept spare new g.kept shape w.ready.store k x q) (w.owned k x q)
-      | inr q ↦ each_in (parts shape 0) (name new shape k) (chart source shape e) (charts (pegs_of source shape old)) e_in q
+    owned_more : Owned (nodes_in new) shape (charts (pegs_in source old))
+    owned_more k x h = elim (here.grown k x h) [
+      | inl q ↦ in_cast (name (nodes_in spare) shape k) (name (nodes_in new) shape k) (flat_map (parts shape 0) (charts (pegs_in source old))) (name_kept (nodes_in spare) (nodes_in new) here.kept shape store k x q) (w.owned k x q)
+      | inr q ↦ each_in (parts shape 0) (name (nodes_in new) shape k) (chart (nodes_in source) shape e) (charts (pegs_in source old)) e_in q
     ]
 
-    copied : (r : Option Edge) → Built new shape 0 (chart source shape e) r → Swept source new shape old (set pegs i r) (i + 1)
+    copied : (r : Option Edge) → Built (nodes_in new) shape 0 (chart (nodes_in source) shape e) r → Swept source new old (set pegs i r) (i + 1)
     copied None s = absurd (never s)
     copied (Some c) st =
-        more (Some c) (ready_after spare new shape 0 (chart source shape e) w.ready g) g.kept g.same owned_more
-        (st.0, ap (some late) st.1 ∙ (subst (λ p. peg_fine source shape p) at next_fine).1)
-        (ap {B = Option Chart} Some st.1 ∙ sym (ap (peg_chart source shape) at))
+        more (Some c) still here.kept here.same owned_more
+        (st.0, ap (some late) st.1 ∙ (subst (λ p. peg_fine (nodes_in source) shape p) at next_fine).1)
+        (ap {B = Option Chart} Some st.1 ∙ sym (ap (peg_chart (nodes_in source) shape) at))
 
-  pub swept_more : (r : Option Edge) → CopiesPeg source spare new shape (get_or pegs i None) r → Swept source new shape old (set pegs i r) (i + 1)
+  pub swept_more : (r : Option Edge) → CopiesPeg source spare new (get_or pegs i None) r → Swept source new old (set pegs i r) (i + 1)
   swept_more r h = go (get_or pegs i None) refl h
     where
-      go : (p : Option Edge) → get_or pegs i None ≡ p → CopiesPeg source spare new shape p r → Swept source new shape old (set pegs i r) (i + 1)
+      go : (p : Option Edge) → get_or pegs i None ≡ p → CopiesPeg source spare new p r → Swept source new old (set pegs i r) (i + 1)
       go None at c =
-          let still = c.0 in
-          more r (subst (λ n. Ready n shape) (sym still) w.ready) (subst (λ n. Kept spare n) (sym still) (λ k x q. q)) (ap length still) (subst (λ n. Owned n shape (charts (pegs_of source shape old))) (sym still) w.owned)
-          (subst (peg_fine new shape) (sym c.1) tt) (ap (peg_chart new shape) c.1 ∙ sym (ap (peg_chart source shape) at))
+          let back = sym c.0 in
+          more r (w.alike.shape ∙ ap shape_in back) (subst (λ (n : NodeStore). Kept (nodes_in spare) (nodes_in n)) back (λ k x q. q)) (ap (λ (n : NodeStore). length (nodes_in n)) c.0) (subst (λ (n : NodeStore). Owned (nodes_in n) shape (charts (pegs_in source old))) back w.owned)
+          (subst (peg_fine (nodes_in new) shape) (sym c.1) tt) (ap (peg_chart (nodes_in new) shape) c.1 ∙ sym (ap (peg_chart (nodes_in source) shape) at))
       go (Some e) at c = copied e at c.0 r c.1
-
-pub swept_all : (source spare : List (Option Node)) (shape : Shape) (old pegs : List (Option Edge)) (i : ℕ) → length pegs ≤ i → Swept source spare shape old pegs i → Collected source spare shape old pegs
-swept_all source spare shape old pegs i h w = record {
-  held = record { ready = w.ready; fine = subst (AllByRecursion (peg_fine spare shape)) (take_all i pegs h) w.fine };
-  same = ap (pegs_of spare shape) (sym (take_all i pegs h)) ∙ w.same ∙ ap (pegs_of source shape) (take_all i old (omega (arith, h, w.long)));
-  owned = w.owned;
-}

@@ -9,7 +9,9 @@ use Rattle.model.specs.Scenes.{Shape}
 use Rattle.model.specs.Shelves.{Pegs, charts}
 use Rattle.store.specs.Stores.{chart, Fine}
 use Rattle.store.specs.Fillings.{Owned}
-use Rattle.build.specs.Builds.{Ready, Grows, Built}
+use Rattle.build.specs.Builds.{Built}
+use Rattle.build.specs.Grew.{nodes_in, shape_in, Grew}
+use Rattle.build.specs.declared.node_store.NodeStore.{NodeStore}
 
 abbrev pub peg_chart : List (Option Node) → Shape → Option Edge → Option Chart
 peg_chart nodes shape None = None
@@ -24,27 +26,35 @@ abbrev pub peg_fine : List (Option Node) → Shape → Option Edge → Type 0
 peg_fine nodes shape None = Unit {0}
 peg_fine nodes shape (Some e) = Fine nodes shape 0 e × (some late (chart nodes shape e) ≡ false)
 
-pub record Held (nodes : List (Option Node)) (shape : Shape) (pegs : List (Option Edge)) : Type 0 where
-  pub ready : Ready nodes shape
-  pub fine : AllByRecursion (peg_fine nodes shape) pegs
+-- two stores over one shape, with as many slots
+pub record Alike (a b : NodeStore) : Type 0 where
+  pub shape : shape_in a ≡ shape_in b
+  pub size : length (nodes_in b) ≡ length (nodes_in a)
 
--- the same charts in another store, which has no more than their parts
-pub record Collected (source spare : List (Option Node)) (shape : Shape) (old pegs : List (Option Edge)) : Type 0 where
-  pub held : Held spare shape pegs
-  pub same : pegs_of spare shape pegs ≡ pegs_of source shape old
-  pub owned : Owned spare shape (charts (pegs_of source shape old))
+-- what the pegs of a store carry
+abbrev pub pegs_in : NodeStore → List (Option Edge) → Pegs
+pegs_in store pegs = pegs_of (nodes_in store) (shape_in store) pegs
+
+pub record Held (store : NodeStore) (pegs : List (Option Edge)) : Type 0 where
+  pub fine : AllByRecursion (peg_fine (nodes_in store) (shape_in store)) pegs
+
+-- the same charts in another store like it, which has no more than their parts
+pub record Collected (source spare : NodeStore) (old pegs : List (Option Edge)) : Type 0 where
+  pub alike : Alike source spare
+  pub held : Held spare pegs
+  pub same : pegs_in spare pegs ≡ pegs_in source old
+  pub owned : Owned (nodes_in spare) (shape_in source) (charts (pegs_in source old))
 
 -- what a peg carries is copied, or there was no room
-abbrev pub CopiesPeg : List (Option Node) → List (Option Node) → List (Option Node) → Shape → Option Edge → Option Edge → Type 0
-CopiesPeg source old new shape None r = (new ≡ old) × (r ≡ None)
-CopiesPeg source old new shape (Some e) r = Grows old new shape 0 (chart source shape e) × Built new shape 0 (chart source shape e) r
+abbrev pub CopiesPeg : NodeStore → NodeStore → NodeStore → Option Edge → Option Edge → Type 0
+CopiesPeg source old new None r = (new ≡ old) × (r ≡ None)
+CopiesPeg source old new (Some e) r = Grew old new 0 (chart (nodes_in source) (shape_in source) e) × Built (nodes_in new) (shape_in source) 0 (chart (nodes_in source) (shape_in source) e) r
 
 -- the first i pegs are copied
-pub record Swept (source spare : List (Option Node)) (shape : Shape) (old pegs : List (Option Edge)) (i : ℕ) : Type 0 where
-  pub ready : Ready spare shape
-  pub size : length spare ≡ length source
-  pub owned : Owned spare shape (charts (pegs_of source shape old))
-  pub fine : AllByRecursion (peg_fine spare shape) (take i pegs)
-  pub same : pegs_of spare shape (take i pegs) ≡ pegs_of source shape (take i old)
+pub record Swept (source spare : NodeStore) (old pegs : List (Option Edge)) (i : ℕ) : Type 0 where
+  pub alike : Alike source spare
+  pub owned : Owned (nodes_in spare) (shape_in source) (charts (pegs_in source old))
+  pub fine : AllByRecursion (peg_fine (nodes_in spare) (shape_in source)) (take i pegs)
+  pub same : pegs_of (nodes_in spare) (shape_in source) (take i pegs) ≡ pegs_of (nodes_in source) (shape_in source) (take i old)
   pub rest : drop i pegs ≡ drop i old
   pub long : length pegs ≡ length old

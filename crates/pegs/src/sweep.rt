@@ -1,67 +1,58 @@
-ghost use Rattle.std.specs.Prelude.{◌≡◌, length};
-ghost use Rattle.store.specs.Stores.{Store};
-ghost use Rattle.build.specs.Builds.{Ready};
+ghost use Rattle.std.specs.Prelude.{◌≡◌};
+ghost use Rattle.build.specs.Grew.{nodes_in, shape_in};
 ghost use Rattle.collect.specs.Copies.{Moved};
-ghost use Rattle.pegs.specs.Held.{Held, Collected, Swept, peg_fine, CopiesPeg};
+ghost use Rattle.pegs.specs.Held.{Alike, Held, Collected, Swept, peg_fine, CopiesPeg};
 
+use build::node_store::NodeStore;
 use collect::copy::copy;
 use collect::moved::forget;
 use nodes::edge::Edge;
-use nodes::node::Node;
-use table::slots::clear;
 
 /// What a peg carries, copied into another store; a bare peg stays bare.
 fn copy_peg(
-    source: &[Option<Node>],
-    nodes: &mut [Option<Node>],
+    source: &NodeStore,
+    spare: &mut NodeStore,
     moved: &mut [Option<u16>],
-    settings: &[u8],
     peg: Option<Edge>,
 ) -> Option<Edge>
-    requires store { Store source.now settings.now }
-    requires ready { Ready nodes.old settings.now }
-    requires moved { Moved source.now nodes.old settings.now moved.old }
-    requires fine { peg_fine source.now settings.now peg }
-    ensures moved { Moved source.now nodes.new settings.now moved.new }
-    ensures copies { CopiesPeg source.now nodes.old nodes.new settings.now peg result }
+    requires alike { shape_in source.now ≡ shape_in spare.old }
+    requires moved { Moved (nodes_in source.now) (nodes_in spare.old) (shape_in source.now) moved.old }
+    requires fine { peg_fine (nodes_in source.now) (shape_in source.now) peg }
+    ensures moved { Moved (nodes_in source.now) (nodes_in spare.new) (shape_in source.now) moved.new }
+    ensures copies { CopiesPeg source.now spare.old spare.new peg result }
 {
-    match peg {
-        Some(e) => copy(source, nodes, moved, settings, 0, e),
-        None => None,
-    }
+    copy(source, spare, moved, 0, peg?)
 }
 
 /// Copies what each peg carries into another store.
 fn copy_pegs(
-    source: &[Option<Node>],
-    spare: &mut [Option<Node>],
+    source: &NodeStore,
+    spare: &mut NodeStore,
     moved: &mut [Option<u16>],
-    settings: &[u8],
     pegs: &mut [Option<Edge>],
 )
-    requires held { Held source.now settings.now pegs.old }
-    requires start { Swept source.now spare.old settings.now pegs.old pegs.old 0 }
-    requires moved { Moved source.now spare.old settings.now moved.old }
-    ensures { Collected source.now spare.new settings.now pegs.old pegs.new }
+    requires held { Held source.now pegs.old }
+    requires start { Swept source.now spare.old pegs.old pegs.old 0 }
+    requires moved { Moved (nodes_in source.now) (nodes_in spare.old) (shape_in source.now) moved.old }
+    ensures { Collected source.now spare.new pegs.old pegs.new }
 {
-    for i in 0..pegs.len() {
-        pegs[i] = copy_peg(source, spare, moved, settings, pegs[i]);
+    for peg in pegs.iter_mut() {
+        *peg = copy_peg(source, spare, moved, *peg);
     }
 }
 
 /// Copies what the pegs reach into another store, which then holds nothing else.
 pub fn sweep(
-    source: &[Option<Node>],
-    spare: &mut [Option<Node>],
+    source: &NodeStore,
+    spare: &mut NodeStore,
     moved: &mut [Option<u16>],
-    settings: &[u8],
     pegs: &mut [Option<Edge>],
 )
-    requires held { Held source.now settings.now pegs.old }
-    requires size { length spare.old ≡ length source.now }
-    ensures { Collected source.now spare.new settings.now pegs.old pegs.new }
+    requires held { Held source.now pegs.old }
+    requires alike { Alike source.now spare.old }
+    ensures { Collected source.now spare.new pegs.old pegs.new }
 {
-    clear(spare);
+    spare.clear();
     forget(moved);
-    copy_pegs(source, spare, moved, settings, pegs);
+    copy_pegs(source, spare, moved, pegs);
 }

@@ -1,12 +1,12 @@
 -- The steps of putting a pair, over plain values. Assumes nothing.
-use Rattle.std.proofs.Common.{◌≡◌, ℕ, suc, ◌+◌, ◌-◌, ◌*◌, ◌<◌, ◌≤◌, false, List, [], ◌∷◌, length, get_or, take, drop, set, Some, None, Option, sym, refl, zero-add, ap, ◌∙◌, subst, arith, length-drop}
-use lib.ListN.{length-map}
+use Rattle.std.proofs.Common.{◌≡◌, ℕ, suc, ◌+◌, ◌-◌, ◌*◌, ◌<◌, ◌≤◌, false, List, [], length, get_or, take, drop, set, Some, None, Option, sym, refl, zero-add, ap, ◌∙◌, subst, arith, length-drop}
 use Rattle.std.specs.List.{range_with_len, flat_map}
 use Rattle.std.proofs.lemmas.List.{drop_more, get_or-take, get_or-drop}
 use Rattle.std.proofs.lemmas.List.FromFn.{get_or-range_with_len}
 use Rattle.table.specs.Tables.{Kept}
 use Rattle.nodes.specs.declared.edge.Edge.{Edge}
 use Rattle.nodes.specs.declared.node.Node.{Node}
+use Rattle.nodes.specs.declared.remembered.Key.{Key}
 use Rattle.nodes.specs.declared.remembered.Operation.TheVariants.{Put}
 use Rattle.model.specs.Charts.{Time, Chart, plus, put_chart, greatest, late}
 use Rattle.model.specs.Lists.{In, some}
@@ -21,10 +21,13 @@ use Rattle.store.specs.Stores.{none_edge, node_at, chart, Fine, Store}
 use Rattle.store.specs.Fillings.{Stuck}
 use Rattle.store.proofs.Canon.{knows}
 use Rattle.store.proofs.Grows.{chart_kept, fine_kept}
-use Rattle.build.specs.Builds.{raised, piece, spread_chart, Ready, Kids, Grows, Built, Partway, together, Stands}
-use Rattle.build.proofs.Steps.{grows_then, grows_alike, ready_after, stuck_wider, partway_grows, partway_stuck, partway_more, partway_kids, partway_all}
+use Rattle.build.specs.declared.node_store.NodeStore.{NodeStore}
+use Rattle.build.specs.Builds.{raised, piece, spread_chart, Kids, Built, together, Stands}
+use Rattle.build.specs.Grew.{nodes_in, shape_in, Grew, Begun}
+use Rattle.build.proofs.Steps.{stuck_wider}
+use Rattle.build.proofs.Grown.{grew_alike, grew_next, stuck_next, begun_next, begun_kids, begun_timely, grew_made, built_made}
 use Rattle.build.proofs.Spreads.{piece_at, made_long}
-use Rattle.build.proofs.Sides.{piece_timely, earlier_timely, moved_fine, from_zero, raise_timely, raise_stands, side_formed, side_chart, side_fine, side_piece, side_kid_timely, side_timely}
+use Rattle.build.proofs.Sides.{raised_chart, piece_timely, earlier_timely, moved_fine, from_zero, raise_timely, raise_stands, side_formed, side_chart, side_fine, side_piece, side_kid_timely, side_timely}
 use Rattle.memo.specs.Results.{Right}
 use Rattle.puts.specs.Puts.{goal}
 
@@ -32,17 +35,17 @@ use Rattle.puts.specs.Puts.{goal}
 abbrev pub rest_of : Edge → Edge
 rest_of e = record { weight = Some 0; child = e.child }
 
-never_chart : (nodes : List (Option Node)) (ns : Shape) (e : Edge) → e.weight ≡ None → (t : Chart) × (chart nodes ns e ≡ later None t)
-never_chart nodes [] e none = (None ∷ [], ap (λ w. w ∷ []) none)
-never_chart nodes (n ∷ ns) e none = (flat_map (chart nodes ns) (take n (node_at nodes e.child).edges), ap (λ w. later w (flat_map (chart nodes ns) (take n (node_at nodes e.child).edges))) none)
+-- what the result for it is remembered under
+abbrev pub key_of : ℕ → ℕ → ℕ → Edge → Key
+key_of l v d e = record { operation = Put v d; level = l; left = rest_of e; right = rest_of e }
 
 -- an edge without times stays as it is
 pub put_skipped : (nodes : List (Option Node)) (shape : Shape) → Store nodes shape → (l v d : ℕ) (e : Edge) → e.weight ≡ None → Fine nodes (drop l shape) l e → Stands nodes shape l (goal nodes shape l v d e) e
 put_skipped nodes shape store l v d e none f =
     let ns = drop l shape in
-    let t = never_chart nodes ns e none in
-    let long : length t.0 ≡ size ns = sym (length-map t.0 (plus None)) ∙ sym (ap length t.1) ∙ (knows nodes shape store ns l e refl f).long in
-    (f, t.1 ∙ sym (put_never ns (v - l) d t.0 long) ∙ ap (put_chart ns (v - l) d) (sym t.1))
+    let c = chart nodes ns e in
+    let is : c ≡ later None c = ap (chart nodes ns) (λ i. record { weight = none i; child = e.child }) ∙ sym (raised_chart nodes ns None e) in
+    (f, is ∙ sym (put_never ns (v - l) d c (knows nodes shape store ns l e refl f).long) ∙ ap (put_chart ns (v - l) d) (sym is))
 
 raised_zero : (e : Edge) → raised (Some 0) e ≡ e
 raised_zero e = go e.weight refl
@@ -55,17 +58,35 @@ pub goal_timely : (ns : Shape) (v d : ℕ) (c : Chart) → some late c ≡ false
 goal_timely ns v d c h = legal_under (put_chart ns v d c) (greatest c) (latest.of_put ns v d c) (sym (late_tells c) ∙ h)
 
 -- what is known of an edge with the time w above the device v, or at it; x is the node that it leads to
-pub record Side (nodes : List (Option Node)) (shape : Shape) (l v d : ℕ) (e : Edge) (w : ℕ) (x : Node) : Type 0 where
-  pub ready : Ready nodes shape
+pub record Side (old : NodeStore) (l v d : ℕ) (e : Edge) (w : ℕ) (x : Node) : Type 0 where
   pub above : l ≤ v
-  pub depth : v < length shape
-  pub legal : d < get_or shape v 0
-  pub fine : Fine nodes (drop l shape) l e
-  pub timely : some late (chart nodes (drop l shape) e) ≡ false
+  pub depth : v < length (shape_in old)
+  pub legal : d < get_or (shape_in old) v 0
+  pub fine : Fine (nodes_in old) (drop l (shape_in old)) l e
+  pub timely : some late (chart (nodes_in old) (drop l (shape_in old)) e) ≡ false
   pub weight : e.weight ≡ Some w
-  pub here : x ≡ node_at nodes e.child
+  pub here : x ≡ node_at (nodes_in old) e.child
 
-module _ {nodes : List (Option Node)} {shape : Shape} {l v d : ℕ} {e : Edge} {w : ℕ} {x : Node} (s : Side nodes shape l v d e w x) where
+-- what is known above the device while the first i of the n kids are built
+pub record Way (old mid : NodeStore) (l v d : ℕ) (e : Edge) (n i : ℕ) (kids : List Edge) : Type 0 where
+  pub below : l < v
+  pub begun : Begun old mid l (goal (nodes_in old) (shape_in old) l v d (rest_of e)) i kids
+  pub count : n ≡ get_or (shape_in old) l 0
+
+module _ {old : NodeStore} {l v d : ℕ} {e : Edge} {w : ℕ} {x : Node} (s : Side old l v d e w x) where
+  abbrev nodes : List (Option Node)
+  nodes = nodes_in old
+
+  abbrev shape : Shape
+  shape = shape_in old
+
+  abbrev store : Store nodes shape
+  store = old.ready.store
+
+  -- the chart that the edge is to have
+  abbrev whole : Chart
+  whole = goal nodes shape l v d e
+
   lt : l < length shape
   lt = omega (arith, s.above, s.depth)
 
@@ -75,32 +96,25 @@ module _ {nodes : List (Option Node)} {shape : Shape} {l v d : ℕ} {e : Edge} {
     low = omega (arith, s.legal, setting, ap (λ j. get_or shape j 0) same)
 
     pub there_raise : late (plus (Some w) (get_or x.edges k none_edge).weight) ≡ false
-    there_raise = side_timely nodes shape s.ready.store l lt e w x s.fine s.weight s.here k low s.timely
+    there_raise = side_timely nodes shape store l lt e w x s.fine s.weight s.here k low s.timely
 
     module _ (kid : Edge) (is : kid ≡ raised (Some w) (get_or x.edges k none_edge)) where
       pub there_fine : Fine nodes (drop (l + 1) shape) (l + 1) kid
-      there_fine = subst (Fine nodes (drop (l + 1) shape) (l + 1)) (sym is) (side_fine nodes shape s.ready.store l lt e w x s.fine s.weight s.here k low)
+      there_fine = subst (Fine nodes (drop (l + 1) shape) (l + 1)) (sym is) (side_fine nodes shape store l lt e w x s.fine s.weight s.here k low)
 
       pub there_timely : some late (chart nodes (drop (l + 1) shape) kid) ≡ false
-      there_timely = ap (λ a. some late (chart nodes (drop (l + 1) shape) a)) is ∙ side_kid_timely nodes shape s.ready.store l lt e w x s.fine s.weight s.here k low s.timely
+      there_timely = ap (λ a. some late (chart nodes (drop (l + 1) shape) a)) is ∙ side_kid_timely nodes shape store l lt e w x s.fine s.weight s.here k low s.timely
 
-      there_is : spread_chart shape l (chart nodes (drop (l + 1) shape) kid) ≡ goal nodes shape l v d e
+      pub there_is : spread_chart shape l (chart nodes (drop (l + 1) shape) kid) ≡ whole
       there_is =
           let n = get_or shape l 0 in
           let ns = drop (l + 1) shape in
           let at = drop_more shape l 0 lt in
           let c = chart nodes (drop l shape) e in
-          let p : get_or (pieces n (size ns) c) k [] ≡ chart nodes ns kid = ap (λ c. piece shape l c k) (side_chart nodes shape s.ready.store l lt e w x s.fine s.weight s.here) ∙ side_piece nodes shape s.ready.store l lt e w x s.fine s.weight s.here k low ∙ ap (chart nodes ns) (sym is) in
-          let long : length (get_or (pieces n (size ns) c) k []) ≡ size ns = ap length p ∙ (knows nodes shape s.ready.store ns (l + 1) kid refl there_fine).long in
+          let p : get_or (pieces n (size ns) c) k [] ≡ chart nodes ns kid = ap (λ c. piece shape l c k) (side_chart nodes shape store l lt e w x s.fine s.weight s.here) ∙ side_piece nodes shape store l lt e w x s.fine s.weight s.here k low ∙ ap (chart nodes ns) (sym is) in
+          let long : length (get_or (pieces n (size ns) c) k []) ≡ size ns = ap length p ∙ (knows nodes shape store ns (l + 1) kid refl there_fine).long in
           let z : 0 ≡ v - l = omega (arith, same) in
           ap (spread_chart shape l) (sym p) ∙ sym (put_here n k ns c low long) ∙ ap (λ t. put_chart t 0 k c) (sym at) ∙ (λ i. put_chart (drop l shape) (z i) (setting i) c)
-
-      module _ (new : List (Option Node)) where
-        pub there_grows : Grows nodes new shape l (spread_chart shape l (chart nodes (drop (l + 1) shape) kid)) → Grows nodes new shape l (goal nodes shape l v d e)
-        there_grows g = subst (Grows nodes new shape l) there_is g
-
-        pub there_built : (r : Option Edge) → Built new shape l (spread_chart shape l (chart nodes (drop (l + 1) shape) kid)) r → Built new shape l (goal nodes shape l v d e) r
-        there_built r b = subst (λ (c : Chart). Built new shape l c r) there_is b
 
   -- below the device
   pub rest_fine : Fine nodes (drop l shape) l (rest_of e)
@@ -109,7 +123,7 @@ module _ {nodes : List (Option Node)} {shape : Shape} {l v d : ℕ} {e : Edge} {
   abbrev inner : Chart
   inner = goal nodes shape l v d (rest_of e)
 
-  pub whole_is : goal nodes shape l v d e ≡ later (Some w) inner
+  pub whole_is : whole ≡ later (Some w) inner
   whole_is = ap (put_chart (drop l shape) (v - l) d) (from_zero nodes (drop l shape) w e s.weight) ∙ put_later (drop l shape) (v - l) d (Some w) (chart nodes (drop l shape) (rest_of e))
 
   rest_timely : some late (chart nodes (drop l shape) (rest_of e)) ≡ false
@@ -119,32 +133,40 @@ module _ {nodes : List (Option Node)} {shape : Shape} {l v d : ℕ} {e : Edge} {
   inner_timely = goal_timely (drop l shape) (v - l) d (chart nodes (drop l shape) (rest_of e)) rest_timely
 
   pub known_timely : (new : List (Option Node)) → Store new shape → (k : Edge) → Stands new shape l inner k → late (plus (Some w) k.weight) ≡ false
-  known_timely new store k st = raise_timely new shape store l k inner (goal nodes shape l v d e) w st whole_is (goal_timely (drop l shape) (v - l) d (chart nodes (drop l shape) e) s.timely)
+  known_timely new store k st = raise_timely new shape store l k inner whole w st whole_is (goal_timely (drop l shape) (v - l) d (chart nodes (drop l shape) e) s.timely)
 
-  pub known_stands : (new : List (Option Node)) → Store new shape → (k r : Edge) → Stands new shape l inner k → r ≡ raised (Some w) k → Stands new shape l (goal nodes shape l v d e) r
-  known_stands new store k r st same = raise_stands new shape store l k inner (goal nodes shape l v d e) w st whole_is r same
+  pub known_stands : (new : List (Option Node)) → Store new shape → (k r : Edge) → Stands new shape l inner k → r ≡ raised (Some w) k → Stands new shape l whole r
+  known_stands new store k r st same = raise_stands new shape store l k inner whole w st whole_is r same
 
-  pub known_right : (new : List (Option Node)) → Kept nodes new → (k : Edge) → Stands new shape l inner k → Right new shape (record { operation = Put v d; level = l; left = rest_of e; right = rest_of e }) k
+  known_right : (new : List (Option Node)) → Kept nodes new → (k : Edge) → Stands new shape l inner k → Right new shape (key_of l v d e) k
   known_right new kept k st =
       let ns = drop l shape in
-      let p = chart_kept nodes new kept shape s.ready.store ns l (rest_of e) refl rest_fine in
+      let p = chart_kept nodes new kept shape store ns l (rest_of e) refl rest_fine in
       record {
         left = fine_kept nodes new kept ns l (rest_of e) rest_fine;
         right = fine_kept nodes new kept ns l (rest_of e) rest_fine;
         stands = (st.0, st.1 ∙ ap (put_chart ns (v - l) d) (sym p));
       }
 
+  -- the piece for a setting
+  kid_chart : (k : ℕ) → k < get_or shape l 0 → chart nodes (drop (l + 1) shape) (get_or x.edges k none_edge) ≡ piece shape l (chart nodes (drop l shape) (rest_of e)) k
+  kid_chart k kl =
+      ap (chart nodes (drop (l + 1) shape)) (sym (raised_zero (get_or x.edges k none_edge)))
+      ∙ sym (side_piece nodes shape store l lt (rest_of e) 0 x rest_fine refl s.here k kl)
+      ∙ ap (λ c. piece shape l c k) (sym (side_chart nodes shape store l lt (rest_of e) 0 x rest_fine refl s.here))
+
+  kid_fine : (k : ℕ) → k < get_or shape l 0 → Fine nodes (drop (l + 1) shape) (l + 1) (get_or x.edges k none_edge)
+  kid_fine k kl = subst (Fine nodes (drop (l + 1) shape) (l + 1)) (raised_zero (get_or x.edges k none_edge)) (side_fine nodes shape store l lt (rest_of e) 0 x rest_fine refl s.here k kl)
+
+  inner_parts : parts (drop l shape) l inner ≡ parts (drop l shape) l whole
+  inner_parts = sym (parts_later (drop l shape) l w inner) ∙ ap (parts (drop l shape) l) (sym whole_is)
+
+  -- where its parts have no room, those of the chart have none
+  stuck_whole : (new : List (Option Node)) → Stuck new shape l inner → Stuck new shape l whole
+  stuck_whole new t = stuck_wider new shape l l whole inner (λ p h. subst (In p) inner_parts h) t
+
+  -- piece by piece
   module _ (below : l < v) where
-    -- the piece for a setting
-    kid_chart : (k : ℕ) → k < get_or shape l 0 → chart nodes (drop (l + 1) shape) (get_or x.edges k none_edge) ≡ piece shape l (chart nodes (drop l shape) (rest_of e)) k
-    kid_chart k kl =
-        ap (chart nodes (drop (l + 1) shape)) (sym (raised_zero (get_or x.edges k none_edge)))
-        ∙ sym (side_piece nodes shape s.ready.store l lt (rest_of e) 0 x rest_fine refl s.here k kl)
-        ∙ ap (λ c. piece shape l c k) (sym (side_chart nodes shape s.ready.store l lt (rest_of e) 0 x rest_fine refl s.here))
-
-    kid_fine : (k : ℕ) → k < get_or shape l 0 → Fine nodes (drop (l + 1) shape) (l + 1) (get_or x.edges k none_edge)
-    kid_fine k kl = subst (Fine nodes (drop (l + 1) shape) (l + 1)) (raised_zero (get_or x.edges k none_edge)) (side_fine nodes shape s.ready.store l lt (rest_of e) 0 x rest_fine refl s.here k kl)
-
     abbrev fanned : ℕ → Chart
     fanned k = put_chart (drop (l + 1) shape) (v - (l + 1)) d (piece shape l (chart nodes (drop l shape) (rest_of e)) k)
 
@@ -167,86 +189,82 @@ module _ {nodes : List (Option Node)} {shape : Shape} {l v d : ℕ} {e : Edge} {
     inner_piece : (k : ℕ) → k < get_or shape l 0 → fanned k ≡ piece shape l inner k
     inner_piece k kl = sym (ap (λ c. piece shape l c k) inner_is ∙ piece_at shape l k fanned fanned_long kl ∙ ap fanned (get_or-range_with_len 0 (get_or shape l 0) k 0 kl ∙ zero-add k))
 
-    inner_parts : parts (drop l shape) l inner ≡ parts (drop l shape) l (goal nodes shape l v d e)
-    inner_parts = sym (parts_later (drop l shape) l w inner) ∙ ap (parts (drop l shape) l) (sym whole_is)
+  -- the kids one by one, the first i of n
+  module _ {mid : NodeStore} {n i : ℕ} {kids : List Edge} (p : Way old mid l v d e n i kids) where
+    -- the node has an edge for each of them
+    edges_counted : length (take n x.edges) ≡ get_or shape l 0
+    edges_counted = ap (λ m. length (take m x.edges)) p.count ∙ (side_formed nodes shape store l lt e w x s.fine s.weight s.here).wide
 
-    -- the kids one by one, the first i of n
-    module _ {mid : List (Option Node)} {i : ℕ} {kids : List Edge} (way : Partway nodes mid shape l inner i kids) (n : ℕ) (count : n ≡ get_or shape l 0) where
-      pub put_ready : Ready mid shape
-      put_ready = ready_after nodes mid shape l inner s.ready way.grows
+    module _ (il : i < length (take n x.edges)) where
+      abbrev kid : Edge
+      kid = get_or (take n x.edges) i none_edge
 
-      -- the node has an edge for each of them
-      edges_counted : length (take n x.edges) ≡ get_or shape l 0
-      edges_counted = ap (λ m. length (take m x.edges)) count ∙ (side_formed nodes shape s.ready.store l lt e w x s.fine s.weight s.here).wide
+      within : i < get_or shape l 0
+      within = omega (arith, il, edges_counted)
 
-      module _ (il : i < length (take n x.edges)) where
-        abbrev kid : Edge
-        kid = get_or (take n x.edges) i none_edge
+      kid_is : kid ≡ get_or x.edges i none_edge
+      kid_is = get_or-take n x.edges i none_edge (omega (arith, within, p.count))
 
-        within : i < get_or shape l 0
-        within = omega (arith, il, edges_counted)
+      fine_there : Fine nodes (drop (l + 1) shape) (l + 1) kid
+      fine_there = subst (Fine nodes (drop (l + 1) shape) (l + 1)) (sym kid_is) (kid_fine i within)
 
-        kid_is : kid ≡ get_or x.edges i none_edge
-        kid_is = get_or-take n x.edges i none_edge (omega (arith, within, count))
+      next_chart : chart (nodes_in mid) (drop (l + 1) shape) kid ≡ piece shape l (chart nodes (drop l shape) (rest_of e)) i
+      next_chart = chart_kept nodes (nodes_in mid) p.begun.way.grows.kept shape store (drop (l + 1) shape) (l + 1) kid refl fine_there ∙ ap (chart nodes (drop (l + 1) shape)) kid_is ∙ kid_chart i within
 
-        fine_there : Fine nodes (drop (l + 1) shape) (l + 1) kid
-        fine_there = subst (Fine nodes (drop (l + 1) shape) (l + 1)) (sym kid_is) (kid_fine i within)
+      -- what is asked of the kid
+      pub next_fine : Fine (nodes_in mid) (drop (l + 1) (shape_in mid)) (l + 1) kid
+      next_fine = subst (λ t. Fine (nodes_in mid) (drop (l + 1) t) (l + 1) kid) (sym p.begun.same) (fine_kept nodes (nodes_in mid) p.begun.way.grows.kept (drop (l + 1) shape) (l + 1) kid fine_there)
 
-        pub next_fine : Fine mid (drop (l + 1) shape) (l + 1) kid
-        next_fine = fine_kept nodes mid way.grows.kept (drop (l + 1) shape) (l + 1) kid fine_there
+      pub next_timely : some late (chart (nodes_in mid) (drop (l + 1) (shape_in mid)) kid) ≡ false
+      next_timely = ap (λ t. some late (chart (nodes_in mid) (drop (l + 1) t) kid)) p.begun.same ∙ ap (some late) next_chart ∙ piece_timely shape l (chart nodes (drop l shape) (rest_of e)) i rest_timely
 
-        next_chart : chart mid (drop (l + 1) shape) kid ≡ piece shape l (chart nodes (drop l shape) (rest_of e)) i
-        next_chart = chart_kept nodes mid way.grows.kept shape s.ready.store (drop (l + 1) shape) (l + 1) kid refl fine_there ∙ ap (chart nodes (drop (l + 1) shape)) kid_is ∙ kid_chart i within
+      -- what it is to have, in the store so far
+      abbrev next : Chart
+      next = goal (nodes_in mid) (shape_in mid) (l + 1) v d kid
 
-        pub next_timely : some late (chart mid (drop (l + 1) shape) kid) ≡ false
-        next_timely = ap (some late) next_chart ∙ piece_timely shape l (chart nodes (drop l shape) (rest_of e)) i rest_timely
+      next_is : next ≡ piece shape l inner i
+      next_is = ap (λ t. goal (nodes_in mid) t (l + 1) v d kid) p.begun.same ∙ ap (put_chart (drop (l + 1) shape) (v - (l + 1)) d) next_chart ∙ inner_piece p.below i within
 
-        next_goal : goal mid shape (l + 1) v d kid ≡ piece shape l inner i
-        next_goal = ap (put_chart (drop (l + 1) shape) (v - (l + 1)) d) next_chart ∙ inner_piece i within
+      module _ (new : NodeStore) (g : Grew mid new (l + 1) next) where
+        pub put_grew : Grew old new l whole
+        put_grew = grew_alike old new l inner whole inner_parts (grew_next old mid new l inner i kids lt p.begun next within next_is g)
 
-        module _ (new : List (Option Node)) (g : Grows mid new shape (l + 1) (goal mid shape (l + 1) v d kid)) where
-          grew : Grows mid new shape (l + 1) (piece shape l inner i)
-          grew = subst (Grows mid new shape (l + 1)) next_goal g
+        pub put_none : (r : Option Edge) → r ≡ None → Stuck (nodes_in new) (shape_in mid) (l + 1) next → Built (nodes_in new) shape l whole r
+        put_none r none t = subst (Built (nodes_in new) shape l whole) (sym none) (stuck_whole (nodes_in new) (stuck_next old mid new l inner i kids lt p.begun next within next_is g t))
 
-          pub put_grows : Grows nodes new shape l (goal nodes shape l v d e)
-          put_grows = grows_alike nodes new shape l inner (goal nodes shape l v d e) inner_parts (partway_grows nodes mid new shape l inner i kids s.ready.store lt within way grew)
+        pub put_more : (made : Edge) → Stands (nodes_in new) (shape_in mid) (l + 1) next made → Begun old new l inner (i + 1) (set kids i made)
+        put_more made st = begun_next old mid new l inner i kids lt p.begun next within next_is g made st
 
-          pub put_none : (r : Option Edge) → r ≡ None → Stuck new shape (l + 1) (goal mid shape (l + 1) v d kid) → Built new shape l (goal nodes shape l v d e) r
-          put_none r none t = subst (Built new shape l (goal nodes shape l v d e)) (sym none) (stuck_wider new shape l l (goal nodes shape l v d e) inner (λ p h. subst (In p) inner_parts h) (partway_stuck nodes mid new shape l inner i kids s.ready.store lt within way grew (subst (Stuck new shape (l + 1)) next_goal t)))
+    -- all of them
+    module _ (most : i ≤ length (take n x.edges)) (least : length (take n x.edges) ≤ i) where
+      all : i ≡ get_or shape l 0
+      all = omega (arith, most, least, edges_counted)
 
-          pub put_more : (made : Edge) → Stands new shape (l + 1) (goal mid shape (l + 1) v d kid) made → Partway nodes new shape l inner (i + 1) (set kids i made)
-          put_more made st = partway_more nodes mid new shape l inner i kids s.ready.store lt within way grew made (s.ready.few l) st.0 (st.1 ∙ next_goal)
+      pub put_kids : Kids (nodes_in mid) (get_or (shape_in mid) l 0) (drop (l + 1) (shape_in mid)) l kids
+      put_kids = begun_kids old mid mid l inner i kids lt p.begun inner all (inner_long p.below)
 
-      -- all of them
-      module _ (most : i ≤ length (take n x.edges)) (least : length (take n x.edges) ≤ i) where
-        end : Partway nodes mid shape l inner (get_or shape l 0) kids
-        end = subst (λ k. Partway nodes mid shape l inner k kids) (let all : i ≡ get_or shape l 0 = omega (arith, most, least, edges_counted) in all) way
+      pub put_timely : some late (together (nodes_in mid) (shape_in mid) l kids) ≡ false
+      put_timely = begun_timely old mid mid l inner i kids lt p.begun inner all (inner_long p.below) inner_timely
 
-        pub put_kids : Kids mid (get_or shape l 0) (drop (l + 1) shape) l kids
-        put_kids = partway_kids nodes mid shape l inner kids (s.ready.few l) end
+      module _ {new : NodeStore} (g : Grew mid new l (together (nodes_in mid) (shape_in mid) l kids)) where
+        grew_inner : Grew old new l inner
+        grew_inner = grew_made old mid new l inner i kids lt p.begun inner all (inner_long p.below) g
 
-        put_together : together mid shape l kids ≡ inner
-        put_together = partway_all nodes mid shape l inner kids (s.ready.few l) end inner_long
+        pub made_grew : Grew old new l whole
+        made_grew = grew_alike old new l inner whole inner_parts grew_inner
 
-        pub put_timely : some late (together mid shape l kids) ≡ false
-        put_timely = ap (some late) put_together ∙ inner_timely
+        pub made_none : (r : Option Edge) → r ≡ None → Stuck (nodes_in new) (shape_in mid) l (together (nodes_in mid) (shape_in mid) l kids) → Built (nodes_in new) shape l whole r
+        made_none r none t = subst (Built (nodes_in new) shape l whole) (sym none) (stuck_whole (nodes_in new) (built_made old mid new l inner i kids lt p.begun inner all (inner_long p.below) None t))
 
-        module _ {new : List (Option Node)} (g : Grows mid new shape l (together mid shape l kids)) where
-          pub made_grows : Grows nodes new shape l (goal nodes shape l v d e)
-          made_grows = grows_alike nodes new shape l inner (goal nodes shape l v d e) inner_parts (grows_then nodes mid new shape l l inner inner s.ready.store (λ p h. h) way.grows (subst (Grows mid new shape l) put_together g))
+        module _ (made : Edge) (st : Stands (nodes_in new) (shape_in mid) l (together (nodes_in mid) (shape_in mid) l kids) made) where
+          stands : Stands (nodes_in new) shape l inner made
+          stands = built_made old mid new l inner i kids lt p.begun inner all (inner_long p.below) (Some made) st
 
-          pub made_none : (r : Option Edge) → r ≡ None → Stuck new shape l (together mid shape l kids) → Built new shape l (goal nodes shape l v d e) r
-          made_none r none t = subst (Built new shape l (goal nodes shape l v d e)) (sym none) (stuck_wider new shape l l (goal nodes shape l v d e) inner (λ p h. subst (In p) inner_parts h) (subst (Stuck new shape l) put_together t))
+          pub made_timely : late (plus (Some w) made.weight) ≡ false
+          made_timely = known_timely (nodes_in new) grew_inner.grows.store made stands
 
-          module _ (made : Edge) (st : Stands new shape l (together mid shape l kids) made) where
-            stands : Stands new shape l inner made
-            stands = (st.0, st.1 ∙ put_together)
+          pub made_right : Right (nodes_in new) (shape_in new) (key_of l v d e) made
+          made_right = subst (λ t. Right (nodes_in new) t (key_of l v d e) made) (sym grew_inner.same) (known_right (nodes_in new) grew_inner.grows.kept made stands)
 
-            pub made_timely : late (plus (Some w) made.weight) ≡ false
-            made_timely = known_timely new g.store made stands
-
-            pub made_right : Right new shape (record { operation = Put v d; level = l; left = rest_of e; right = rest_of e }) made
-            made_right = known_right new made_grows.kept made stands
-
-            pub made_stands : (r : Edge) → r ≡ raised (Some w) made → Stands new shape l (goal nodes shape l v d e) r
-            made_stands r same = known_stands new g.store made r stands same
+          pub made_stands : (r : Edge) → r ≡ raised (Some w) made → Stands (nodes_in new) shape l whole r
+          made_stands r same = known_stands (nodes_in new) grew_inner.grows.store made r stands same

@@ -5,15 +5,13 @@ ghost use Rattle.std.specs.Prelude.{◌≡◌, ◌<◌, ◌≤◌, false, length
 ghost use Rattle.model.specs.Charts.{late};
 ghost use Rattle.model.specs.Lists.{some};
 ghost use Rattle.store.specs.Stores.{chart, Fine};
-ghost use Rattle.build.specs.Builds.{Ready, Grows, Built};
-ghost use Rattle.memo.specs.Results.{Knows};
+ghost use Rattle.build.specs.Builds.{Built};
+ghost use Rattle.build.specs.Grew.{nodes_in, shape_in, Grew};
 ghost use Rattle.puts.specs.Puts as puts;
 
-use build::make::{make, spread};
-use build::reach::{node_at, raise};
-use memo::{recall, remember};
+use build::reach::raise;
+use memo::diagrams::Diagrams;
 use nodes::edge::Edge;
-use nodes::node::Node;
 use nodes::remembered::{Key, Operation, Remembered};
 
 /// An edge that is never throughout, past a device's last setting.
@@ -24,33 +22,22 @@ const NO_EDGE: Edge = Edge {
 
 /// The edge whose chart gives a scene what the chart of `e` gives once the device is at the setting, or none where no
 /// slot is free for one of its parts.
-pub fn put(
-    nodes: &mut [Option<Node>],
-    memo: &mut [Option<Remembered>],
-    settings: &[u8],
-    level: usize,
-    device: u8,
-    setting: u8,
-    e: Edge,
-) -> Option<Edge>
+pub fn put(diagrams: &mut Diagrams, level: usize, device: u8, setting: u8, e: Edge) -> Option<Edge>
     requires above { level ≤ device }
-    requires depth { device < length settings.now }
-    requires legal { setting < slice_index settings.now device }
-    requires ready { Ready nodes.old settings.now }
-    requires knows { Knows nodes.old settings.now memo.old }
-    requires fine { Fine nodes.old (drop level settings.now) level e }
-    requires timely { some late (chart nodes.old (drop level settings.now) e) ≡ false }
-    ensures grows { Grows nodes.old nodes.new settings.now level (puts.goal nodes.old settings.now level device setting e) }
-    ensures knows { Knows nodes.new settings.now memo.new }
-    ensures built { Built nodes.new settings.now level (puts.goal nodes.old settings.now level device setting e) result }
+    requires depth { device < length (shape_in diagrams.old.store) }
+    requires legal { setting < slice_index (shape_in diagrams.old.store) device }
+    requires fine { Fine (nodes_in diagrams.old.store) (drop level (shape_in diagrams.old.store)) level e }
+    requires timely { some late (chart (nodes_in diagrams.old.store) (drop level (shape_in diagrams.old.store)) e) ≡ false }
+    ensures grew { Grew diagrams.old.store diagrams.new.store level (puts.goal (nodes_in diagrams.old.store) (shape_in diagrams.old.store) level device setting e) }
+    ensures built { Built (nodes_in diagrams.new.store) (shape_in diagrams.old.store) level (puts.goal (nodes_in diagrams.old.store) (shape_in diagrams.old.store) level device setting e) result }
 {
     let Some(w) = e.weight else {
         return Some(e);
     };
-    let node = node_at(nodes, e.child);
+    let node = diagrams.store.node_at(e.child);
     if level == usize::from(device) {
         let there = raise(node.edges[usize::from(setting)], w);
-        return spread(nodes, settings, level, there);
+        return diagrams.spread(level, there);
     }
     let rest = Edge {
         weight: Some(0),
@@ -58,19 +45,20 @@ pub fn put(
     };
     let key = Key {
         operation: Operation::Put(device, setting),
+        // below the device, which is a u8
         level: level as u8,
         left: rest,
         right: rest,
     };
-    if let Some(known) = recall(memo, &key) {
+    if let Some(known) = diagrams.recall(&key) {
         return Some(raise(known, w));
     }
-    let count = usize::from(settings[level]);
+    let count = diagrams.store.count(level);
     let mut kids = [NO_EDGE; 8];
     for (i, edge) in node.edges[..count].iter().enumerate() {
-        kids[i] = put(nodes, memo, settings, level + 1, device, setting, *edge)?;
+        kids[i] = put(diagrams, level + 1, device, setting, *edge)?;
     }
-    let made = make(nodes, settings, level, kids)?;
-    remember(memo, Remembered { key, result: made });
+    let made = diagrams.make(level, kids)?;
+    diagrams.remember(Remembered { key, result: made });
     Some(raise(made, w))
 }

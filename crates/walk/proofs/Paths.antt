@@ -1,10 +1,9 @@
 -- One step down the path of a scene. Assumes nothing.
-use Rattle.std.proofs.Common.{◌≡◌, ℕ, ◌+◌, ◌*◌, ◌<◌, false, List, [], ◌∷◌, length, get_or, take, drop, Some, None, Option, sym, refl, ap, ◌∙◌, subst, arith}
-use Rattle.std.specs.List.{flat_map}
+use Rattle.std.proofs.Common.{◌≡◌, ℕ, ◌+◌, ◌*◌, ◌<◌, false, List, length, get_or, drop, Some, None, Option, sym, refl, ap, ◌∙◌, subst, arith}
 use Rattle.std.proofs.lemmas.List.{drop_more, drop_all}
 use Rattle.nodes.specs.declared.edge.Edge.{Edge}
 use Rattle.nodes.specs.declared.node.Node.{Node}
-use Rattle.model.specs.Charts.{Time, Chart, at, plus, late}
+use Rattle.model.specs.Charts.{Time, at, plus, late}
 use Rattle.model.specs.Lists.{some}
 use Rattle.model.specs.Scenes.{Shape, Scene, SceneOf, size, rank}
 use Rattle.model.proofs.Ranks.{rank_less, scene_drop, scene_length, setting_less}
@@ -12,17 +11,13 @@ use Rattle.parts.specs.Shifts.{later}
 use Rattle.parts.proofs.Tabulated.{at_piece, get_or_later}
 use Rattle.store.specs.Stores.{none_edge, node_at, chart, Fine}
 use Rattle.build.specs.Builds.{raised, piece, Ready}
-use Rattle.build.proofs.Sides.{side_chart, side_piece, side_fine, side_kid_timely, side_timely}
+use Rattle.build.proofs.Sides.{raised_chart, side_chart, side_piece, side_fine, side_kid_timely, side_timely}
 
 -- no time anywhere
-never_chart : (nodes : List (Option Node)) (ns : Shape) (e : Edge) → e.weight ≡ None → (t : Chart) × (chart nodes ns e ≡ later None t)
-never_chart nodes [] e none = (None ∷ [], ap (λ w. w ∷ []) none)
-never_chart nodes (n ∷ ns) e none = (flat_map (chart nodes ns) (take n (node_at nodes e.child).edges), ap (λ w. later w (flat_map (chart nodes ns) (take n (node_at nodes e.child).edges))) none)
-
 pub walk_never : (nodes : List (Option Node)) (ns : Shape) (s : Scene) (e : Edge) → e.weight ≡ None → None ≡ at ns (chart nodes ns e) s
 walk_never nodes ns s e none =
-    let t = never_chart nodes ns e none in
-    sym (ap (λ c. at ns c s) t.1 ∙ get_or_later None t.0 (rank ns s) refl)
+    let is : chart nodes ns e ≡ later None (chart nodes ns e) = ap (chart nodes ns) (λ i. record { weight = none i; child = e.child }) ∙ sym (raised_chart nodes ns None e) in
+    sym (ap (λ c. at ns c s) is ∙ get_or_later None (chart nodes ns e) (rank ns s) refl)
 
 pub walk_end : (nodes : List (Option Node)) (shape : Shape) (l : ℕ) (s : Scene) (e : Edge) (w : ℕ) → l ≡ length shape → e.weight ≡ Some w → ◌≡◌ {A = Time} (Some w) (at (drop l shape) (chart nodes (drop l shape) e) s)
 walk_end nodes shape l s e w end h = subst (λ (t : Shape). ◌≡◌ {A = Time} (Some w) (at t (chart nodes t e) s)) (sym (drop_all l shape (omega arith))) (sym h)

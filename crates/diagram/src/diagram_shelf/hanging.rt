@@ -1,47 +1,37 @@
 ghost use Rattle.std.specs.Prelude.{◌≡◌, ◌<◌};
 ghost use Rattle.model.specs.Shelves.{bare as is_bare};
 ghost use Rattle.hang.specs.Tasks.{Allowed, made};
-ghost use Rattle.shelf.specs.Shapes.{shape_of};
 ghost use Rattle.diagram.specs.Means.{means, Hung};
 
 use crate::diagram_shelf::DiagramShelf;
 use hang::retry::hang;
 use hang::task::Task;
+use lists::limits::PEGS;
 use shelf::fault::ShelfFault;
 
 impl DiagramShelf {
     /// Whether a peg is bare.
     pub(crate) fn bare(&self, peg: usize) -> bool
-        requires low { peg < 8 }
+        requires low { peg < PEGS }
         ensures value { result ≡ is_bare (means self.now).pegs peg }
     {
-        let carried = self.pegs[peg];
-        match carried {
-            Some(_) => false,
-            None => true,
-        }
+        self.pegs[peg].is_none()
     }
 
     /// Hangs a chart on a peg, or refuses it for want of room.
     pub(crate) fn hang_task(&mut self, task: Task, target: usize) -> Result<(), ShelfFault>
-        requires low { target < 8 }
-        requires allowed { Allowed (shape_of self.old.shape) (means self.old).pegs task }
-        ensures hung { Hung (means self.old) (means self.new) target (made (shape_of self.old.shape) (means self.old).pegs task) result }
+        requires low { target < PEGS }
+        requires allowed { Allowed (means self.old).shape (means self.old).pegs task }
+        ensures hung { Hung (means self.old) (means self.new) target (made (means self.old).shape (means self.old).pegs task) result }
     {
-        let hung = hang(
+        hang(
             task,
-            self.nodes.as_mut_slice(),
-            self.spare.as_mut_slice(),
+            &mut self.diagrams,
+            &mut self.spare,
             self.moved.as_mut_slice(),
-            self.memo.as_mut_slice(),
-            self.shape.settings(),
             &mut self.pegs,
             target,
-        );
-        if hung {
-            Ok(())
-        } else {
-            Err(ShelfFault::NoRoom)
-        }
+        )
+        .ok_or(ShelfFault::NoRoom)
     }
 }

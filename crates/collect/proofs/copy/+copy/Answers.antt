@@ -1,129 +1,57 @@
-use Rattle.std.proofs.Common.{◌≡◌, ◌<◌, length, get_or, drop, sym, refl, arith, rules}
-use Rattle.store.specs.Stores.{chart}
-use Rattle.build.proofs.Steps.{grows_none}
-use Rattle.collect.proofs.Copying.{Side, copy_leaf, kid_fine, kid_timely, copy_ready, copy_grows, copy_stuck, copy_more, copy_kids, copy_timely, copy_made, copy_full, made_body, copy_stands, moved_kept, moved_noted}
+use Rattle.std.proofs.Common.{sym, refl, arith, rules}
+use Rattle.build.specs.Grew.{nodes_in, shape_in}
+use Rattle.collect.proofs.Copying.{Side, item_at, all_passed, kid_fine, kid_timely, filled_grew, filled_stuck, filled_more, filled_kids, filled_timely, filled_made, filled_full, still_moved, filled_stands, filled_noted}
 use Rattle.collect.proofs.copy.+copy.Goals as goal
 
-pub returns-then-level-settings : goal.returns-then-level-settings
-returns-then-level-settings t c =
-    let source = c.args.source.now in
-    let old = c.args.nodes.now in
-    let shape = c.args.settings.now in
-    let l = c.args.level in
-    let e = c.args.e in
-    record {
-      grows = grows_none old shape l (chart source (drop l shape) e) c.requires.ready;
-      moved = c.requires.moved;
-      built = copy_leaf source old shape l e c.if-level-settings.true c.requires.fine;
-    }
-
-pub returns-in-Some : goal.returns-in-Some
-returns-in-Some t c =
-    let source = c.args.source.now in
-    let old = c.args.nodes.now in
-    let shape = c.args.settings.now in
-    let l = c.args.level in
-    let e = c.args.e in
-    let lt : l < length shape = search rules in
-    record {
-      grows = grows_none old shape l (chart source (drop l shape) e) c.requires.ready;
-      moved = c.requires.moved;
-      built = c.requires.moved e.child c.in-Some.child (sym c.in-Some.ensures) l e lt refl c.requires.fine;
-    }
+pub returns-in-Some-clause-built : goal.returns-in-Some-clause-built
+returns-in-Some-clause-built t c = c.requires.moved c.args.e.child c.in-Some.child (rw (← c.from.ensures) (sym c.in-Some.ensures)) c.args.level c.args.e (omega arith) refl c.requires.fine
 
 pub copy-requires : goal.copy-requires
 copy-requires t c =
     let source = c.args.source.now in
-    let old = c.args.nodes.now in
-    let shape = c.args.settings.now in
-    let l = c.args.level in
-    let e = c.args.e in
-    let lt : l < length shape = search rules in
-    let x = c.node_at-node.result in
-    let side : Side source shape l e x = record { store = c.requires.store; lt = lt; fine = c.requires.fine; here = c.node_at-node.ensures } in
-    (search rules, (omega arith, (c.requires.store, (copy_ready source shape l e x side old c.loop-i.nodes c.requires.ready c.loop-i.i c.loop-i.kids c.loop-i.invariant.0, (c.loop-i.invariant.1, (kid_fine source shape l e x side c.loop-i.i c.loop-i-test.true, kid_timely source shape l e x side c.loop-i.i c.loop-i-test.true c.requires.timely))))))
-
-pub returns-in-None : goal.returns-in-None
-returns-in-None t c =
-    let source = c.args.source.now in
-    let old = c.args.nodes.now in
-    let shape = c.args.settings.now in
-    let l = c.args.level in
-    let e = c.args.e in
-    let lt : l < length shape = search rules in
-    let x = c.node_at-node.result in
-    let side : Side source shape l e x = record { store = c.requires.store; lt = lt; fine = c.requires.fine; here = c.node_at-node.ensures } in
-    let got = c.in-None.ensures in
-    record {
-      grows = copy_grows source shape l e x side old c.loop-i.nodes c.requires.ready c.loop-i.i c.loop-i.kids c.loop-i.invariant.0 c.copy.new.nodes c.loop-i-test.true got.grows;
-      moved = got.moved;
-      built = copy_stuck source shape l e x side old c.loop-i.nodes c.requires.ready c.loop-i.i c.loop-i.kids c.loop-i.invariant.0 c.copy.new.nodes c.loop-i-test.true got.grows got.built;
-    }
+    let side : Side (nodes_in source) (shape_in source) c.args.level c.args.e = record { store = source.ready.store; lt = omega arith; fine = c.requires.fine } in
+    let item = item_at side c.loop-i.i c.count-count.ensures.value c.node_at-node.ensures.value c.loop-i-test.true in
+    (search rules, (c.loop-i.invariant.alike, (omega (arith, side.lt), (c.loop-i.invariant.noted, (kid_fine side item, kid_timely side item c.requires.timely)))))
 
 pub loop-i-preserved : goal.loop-i-preserved
 loop-i-preserved t c =
     let source = c.args.source.now in
-    let old = c.args.nodes.now in
-    let shape = c.args.settings.now in
-    let l = c.args.level in
-    let e = c.args.e in
-    let lt : l < length shape = search rules in
-    let x = c.node_at-node.result in
-    let side : Side source shape l e x = record { store = c.requires.store; lt = lt; fine = c.requires.fine; here = c.node_at-node.ensures } in
-    let got = c.in-Some-copy.ensures in
-    (copy_more source shape l e x side old c.loop-i.nodes c.requires.ready c.loop-i.i c.loop-i.kids c.loop-i.invariant.0 c.copy.new.nodes c.loop-i-test.true got.grows c.in-Some-copy.kid got.built, got.moved)
+    let side : Side (nodes_in source) (shape_in source) c.args.level c.args.e = record { store = source.ready.store; lt = omega arith; fine = c.requires.fine } in
+    let item = item_at side c.loop-i.i c.count-count.ensures.value c.node_at-node.ensures.value c.loop-i-test.true in
+    let got = c.in_ok-kids.ensures in
+    filled_more c.requires.alike side c.loop-i.invariant item got.grew c.copy.new.moved c.in_ok-kids.field-0 got.built got.moved
+
+pub returns-in_err-kids : goal.returns-in_err-kids
+returns-in_err-kids t c =
+    let source = c.args.source.now in
+    let side : Side (nodes_in source) (shape_in source) c.args.level c.args.e = record { store = source.ready.store; lt = omega arith; fine = c.requires.fine } in
+    let item = item_at side c.loop-i.i c.count-count.ensures.value c.node_at-node.ensures.value c.loop-i-test.true in
+    let got = c.in_err-kids.ensures in
+    record { grew = filled_grew c.requires.alike side c.loop-i.invariant item got.grew; moved = got.moved; built = rw c.from_residual.ensures (filled_stuck c.requires.alike side c.loop-i.invariant item got.grew got.built) }
 
 pub make-requires : goal.make-requires
 make-requires t c =
     let source = c.args.source.now in
-    let old = c.args.nodes.now in
-    let shape = c.args.settings.now in
-    let l = c.args.level in
-    let e = c.args.e in
-    let lt : l < length shape = search rules in
-    let x = c.node_at-node.result in
-    let side : Side source shape l e x = record { store = c.requires.store; lt = lt; fine = c.requires.fine; here = c.node_at-node.ensures } in
-    let all : c.loop-i.i ≡ get_or shape l 0 = omega (arith, c.loop-i-test.false, c.loop-i.auto.i-end) in
-    record { depth = lt; ready = copy_ready source shape l e x side old c.loop-i.nodes c.requires.ready c.loop-i.i c.loop-i.kids c.loop-i.invariant.0; kids = copy_kids source shape l e x side old c.loop-i.nodes c.requires.ready c.loop-i.i c.loop-i.kids c.loop-i.invariant.0 all; timely = copy_timely source shape l e x side old c.loop-i.nodes c.requires.ready c.loop-i.i c.loop-i.kids c.loop-i.invariant.0 all c.requires.timely }
+    let side : Side (nodes_in source) (shape_in source) c.args.level c.args.e = record { store = source.ready.store; lt = omega arith; fine = c.requires.fine } in
+    let all = all_passed side c.loop-i.i c.count-count.ensures.value c.node_at-node.ensures.value c.loop-i-test.false c.loop-i.auto.i-end in
+    record { depth = rw (← c.loop-i.invariant.alike) side.lt; kids = filled_kids c.requires.alike side c.loop-i.invariant all; timely = filled_timely c.requires.alike side c.loop-i.invariant all c.requires.timely }
 
-pub returns-in-Some-make : goal.returns-in-Some-make
-returns-in-Some-make t c =
+pub returns-in_err-made : goal.returns-in_err-made
+returns-in_err-made t c =
     let source = c.args.source.now in
-    let old = c.args.nodes.now in
-    let shape = c.args.settings.now in
-    let l = c.args.level in
-    let e = c.args.e in
-    let lt : l < length shape = search rules in
-    let x = c.node_at-node.result in
-    let side : Side source shape l e x = record { store = c.requires.store; lt = lt; fine = c.requires.fine; here = c.node_at-node.ensures } in
-    let all : c.loop-i.i ≡ get_or shape l 0 = omega (arith, c.loop-i-test.false, c.loop-i.auto.i-end) in
-    let mid = c.loop-i.nodes in
-    let new = c.make.new.nodes in
-    let got = c.in-Some-make.ensures in
-    let m = c.in-Some-make.made in
-    let st = made_body source shape l e x side old c.loop-i.nodes c.requires.ready c.loop-i.i c.loop-i.kids c.loop-i.invariant.0 all new m got.built in
-    record {
-      grows = copy_made source shape l e x side old c.loop-i.nodes c.requires.ready c.loop-i.i c.loop-i.kids c.loop-i.invariant.0 all new got.grows;
-      moved = moved_noted source new shape c.loop-i.moved c.note.new.moved l e x m side got.grows.store (moved_kept source mid new shape c.loop-i.moved c.loop-i.invariant.0.grows.store got.grows.kept c.loop-i.invariant.1) st c.note.ensures;
-      built = copy_stands source shape l e x side new got.grows.store m st;
-    }
+    let side : Side (nodes_in source) (shape_in source) c.args.level c.args.e = record { store = source.ready.store; lt = omega arith; fine = c.requires.fine } in
+    let all = all_passed side c.loop-i.i c.count-count.ensures.value c.node_at-node.ensures.value c.loop-i-test.false c.loop-i.auto.i-end in
+    let got = c.in_err-made.ensures in
+    record { grew = filled_made c.requires.alike side c.loop-i.invariant all got.grew; moved = still_moved c.requires.alike side c.loop-i.invariant all got.grew; built = rw c.from_residual-in_err-made.ensures (filled_full c.requires.alike side c.loop-i.invariant all got.grew got.built) }
 
-pub returns-in-None-make : goal.returns-in-None-make
-returns-in-None-make t c =
+pub returns : goal.returns
+returns t c =
     let source = c.args.source.now in
-    let old = c.args.nodes.now in
-    let shape = c.args.settings.now in
-    let l = c.args.level in
-    let e = c.args.e in
-    let lt : l < length shape = search rules in
-    let x = c.node_at-node.result in
-    let side : Side source shape l e x = record { store = c.requires.store; lt = lt; fine = c.requires.fine; here = c.node_at-node.ensures } in
-    let all : c.loop-i.i ≡ get_or shape l 0 = omega (arith, c.loop-i-test.false, c.loop-i.auto.i-end) in
-    let mid = c.loop-i.nodes in
-    let new = c.make.new.nodes in
-    let got = c.in-None-make.ensures in
+    let side : Side (nodes_in source) (shape_in source) c.args.level c.args.e = record { store = source.ready.store; lt = omega arith; fine = c.requires.fine } in
+    let all = all_passed side c.loop-i.i c.count-count.ensures.value c.node_at-node.ensures.value c.loop-i-test.false c.loop-i.auto.i-end in
+    let got = c.in_ok-made.ensures in
     record {
-      grows = copy_made source shape l e x side old c.loop-i.nodes c.requires.ready c.loop-i.i c.loop-i.kids c.loop-i.invariant.0 all new got.grows;
-      moved = moved_kept source mid new shape c.loop-i.moved c.loop-i.invariant.0.grows.store got.grows.kept c.loop-i.invariant.1;
-      built = copy_full source shape l e x side old c.loop-i.nodes c.requires.ready c.loop-i.i c.loop-i.kids c.loop-i.invariant.0 all new got.built;
+      grew = filled_made c.requires.alike side c.loop-i.invariant all got.grew;
+      moved = filled_noted c.requires.alike side c.loop-i.invariant all got.grew c.in_ok-made.made got.built c.note.new.moved c.note.ensures;
+      built = filled_stands c.requires.alike side c.loop-i.invariant all got.grew c.in_ok-made.made got.built;
     }

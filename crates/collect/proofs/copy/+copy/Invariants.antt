@@ -1,13 +1,10 @@
-use Rattle.std.proofs.Common.{◌-◌, length, drop}
-use Rattle.store.specs.Stores.{body}
-use Rattle.build.specs.Builds.{Partway}
-use Rattle.collect.specs.Copies.{Moved}
+use Rattle.std.proofs.Common.{◌-◌, length}
+use Rattle.build.specs.Grew.{shape_in}
+use Rattle.collect.proofs.Copying.{Filled}
 use Rattle.collect.proofs.copy.+copy.Given as goal
 
 abbrev pub decreases-copy : goal.decreases-copy
-decreases-copy l = length l.settings.now - l.level
+decreases-copy l = length (shape_in l.source.now) - l.level
 
 abbrev pub invariant-loop-i : goal.invariant-loop-i
-invariant-loop-i l =
-    Partway l.initial.nodes l.nodes l.settings l.level (body l.source (drop l.level l.settings) l.node) l.i l.kids
-    × Moved l.source l.nodes l.settings l.moved
+invariant-loop-i l = Filled l.source l.initial.spare l.spare l.moved l.level l.e l.i l.kids

@@ -1,33 +1,20 @@
-use Rattle.pegs.specs.Held.{pegs_of}
-use Rattle.hang.specs.Tasks.{made}
 use Rattle.hang.proofs.Trying.{still_held, still_same, try_full, try_held, try_same, try_room, made_timely}
 use Rattle.hang.proofs.attempt.try_to_hang.Goals as goal
 
-pub returns-in-Some : goal.returns-in-Some
-returns-in-Some c =
-    let old = c.args.nodes.now in
-    let new = c.attempt.new.nodes in
-    let shape = c.args.settings.now in
-    let pegs = c.args.pegs.now in
-    let chart = made shape (pegs_of old shape pegs) c.args.task in
-    let got = c.in-Some.ensures in
-    let timely = made_timely old shape pegs c.args.task c.requires.held c.requires.allowed in
-    record {
-      held = try_held old new shape pegs chart c.requires.held got.grows c.in-Some.e got.built timely c.args.target;
-      knows = got.knows;
-      tried = (try_room old new shape pegs chart c.requires.held got.grows c.in-Some.e got.built timely, try_same old new shape pegs chart c.requires.held got.grows c.in-Some.e got.built timely c.args.target);
-    }
+pub returns-in_err-e-clause-held : goal.returns-in_err-e-clause-held
+returns-in_err-e-clause-held c = still_held c.requires.held c.in_err-e.ensures.grew
 
-pub returns-in-None : goal.returns-in-None
-returns-in-None c =
-    let old = c.args.nodes.now in
-    let new = c.attempt.new.nodes in
-    let shape = c.args.settings.now in
-    let pegs = c.args.pegs.now in
-    let chart = made shape (pegs_of old shape pegs) c.args.task in
-    let got = c.in-None.ensures in
-    record {
-      held = still_held old new shape pegs chart c.requires.held got.grows;
-      knows = got.knows;
-      tried = (try_full old new shape pegs chart c.requires.held got.grows got.built, still_same old new shape pegs chart c.requires.held got.grows);
-    }
+pub returns-in_err-e-clause-tried : goal.returns-in_err-e-clause-tried
+returns-in_err-e-clause-tried c =
+    let got = c.in_err-e.ensures in
+    rw c.from_residual.ensures (try_full c.requires.held got.grew got.built, still_same c.requires.held got.grew)
+
+pub returns-clause-held : goal.returns-clause-held
+returns-clause-held c =
+    let got = c.in_ok-e.ensures in
+    try_held c.requires.held got.grew c.in_ok-e.e got.built (made_timely c.args.diagrams.now.store c.args.pegs.now c.args.task c.requires.held c.requires.allowed) c.args.target
+
+pub returns-clause-tried : goal.returns-clause-tried
+returns-clause-tried c =
+    let got = c.in_ok-e.ensures in
+    (try_room c.requires.held got.grew c.in_ok-e.e got.built, try_same c.requires.held got.grew c.in_ok-e.e got.built c.args.target)

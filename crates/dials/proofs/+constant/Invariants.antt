@@ -1,5 +1,0 @@
-use Rattle.std.proofs.Common.{◌-◌, length}
-use Rattle.dials.proofs.+constant.Given as goal
-
-abbrev pub decreases-constant : goal.decreases-constant
-decreases-constant l = length l.settings.now - l.level

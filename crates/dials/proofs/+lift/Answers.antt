@@ -1,0 +1,58 @@
+use Rattle.std.proofs.Common.{◌≡◌, ◌-◌, ◌<◌, ◌+◌, ℕ, suc, drop, refl, sym, ap, ◌∙◌, subst, arith}
+use Rattle.store.specs.Stores.{chart, Fine}
+use Rattle.store.proofs.Canon.{knows}
+use Rattle.model.specs.Scenes.{size}
+use Rattle.build.specs.Grew.{nodes_in, shape_in}
+use Rattle.build.proofs.Grown.{grew_none}
+use Rattle.dials.specs.Flats.{lifted}
+use Rattle.dials.proofs.Lifts.{Turn, lifted_long, lifted_timely, turn_early, turn_none, turn_timely, turn_grew, turn_built}
+use Rattle.dials.proofs.+lift.Goals.{After-lift}
+use Rattle.dials.proofs.+lift.Goals as goal
+
+turn : (t : ℕ) (c : After-lift t) → Turn c.args.store.now c.lift.new.store c.args.level (lifted (shape_in c.args.store.now) (c.args.level + 1) (c.args.from - (c.args.level + 1)) (chart (nodes_in c.args.store.now) (drop c.args.from (shape_in c.args.store.now)) c.args.e)) (lifted (shape_in c.args.store.now) c.args.level (c.args.from - c.args.level) (chart (nodes_in c.args.store.now) (drop c.args.from (shape_in c.args.store.now)) c.args.e))
+turn t c =
+    let old = c.args.store.now in
+    let shape = shape_in old in
+    let l = c.args.level in
+    let v = c.args.from in
+    let top = chart (nodes_in old) (drop v shape) c.args.e in
+    let below : l < v = omega (arith, c.requires.above, c.if-level-from.false) in
+    let more : suc (v - (l + 1)) ≡ v - l = omega (arith, below) in
+    let all : v ≡ l + 1 + (v - (l + 1)) = omega (arith, below) in
+    record {
+      depth = omega (arith, below, c.requires.depth);
+      long = lifted_long shape (v - (l + 1)) (l + 1) top (omega (arith, all, c.requires.depth)) ((knows (nodes_in old) shape old.ready.store (drop v shape) v c.args.e refl c.requires.fine).long ∙ ap (λ j. size (drop j shape)) all);
+      timely = lifted_timely shape (v - (l + 1)) (l + 1) top c.requires.timely;
+      is = ap (λ k. lifted shape l k top) more;
+      grew = c.lift.ensures.grew;
+    }
+
+pub returns-then-level-from : goal.returns-then-level-from
+returns-then-level-from t c =
+    let old = c.args.store.now in
+    let nodes = nodes_in old in
+    let shape = shape_in old in
+    let l = c.args.level in
+    let v = c.args.from in
+    let same = c.if-level-from.true in
+    let top = chart nodes (drop v shape) c.args.e in
+    let none : 0 ≡ v - l = omega (arith, same) in
+    record {
+      grew = grew_none old l (lifted shape l (v - l) top);
+      built = (subst (λ j. Fine nodes (drop j shape) j c.args.e) (sym same) c.requires.fine, ap (λ j. chart nodes (drop j shape) c.args.e) same ∙ ap (λ k. lifted shape l k top) none);
+    }
+
+pub returns-in_err-kid-clause-grew : goal.returns-in_err-kid-clause-grew
+returns-in_err-kid-clause-grew t c = turn_early (turn t (goal.at.returns-in_err-kid-clause-grew t c).After-lift)
+
+pub returns-in_err-kid-clause-built : goal.returns-in_err-kid-clause-built
+returns-in_err-kid-clause-built t c = turn_none (turn t (goal.at.returns-in_err-kid-clause-built t c).After-lift) c.from_residual.result c.from_residual.ensures c.in_err-kid.ensures.built
+
+pub spread-requires-clause-timely : goal.spread-requires-clause-timely
+spread-requires-clause-timely t c = turn_timely (turn t (goal.at.spread-requires-clause-timely t c).After-lift) c.in_ok-kid.kid c.in_ok-kid.ensures.built
+
+pub returns-clause-grew : goal.returns-clause-grew
+returns-clause-grew t c = turn_grew (turn t (goal.at.returns-clause-grew t c).After-lift) c.in_ok-kid.kid c.in_ok-kid.ensures.built c.spread.new.self c.spread.ensures.grew
+
+pub returns-clause-built : goal.returns-clause-built
+returns-clause-built t c = turn_built (turn t (goal.at.returns-clause-built t c).After-lift) c.in_ok-kid.kid c.in_ok-kid.ensures.built c.spread.new.self c.spread.result c.spread.ensures.built
