@@ -6,7 +6,7 @@ use nodes::edge::Edge;
 use times::lesser;
 
 /// The least weight.
-pub fn least(edges: &[Edge]) -> Option<u64>
+pub(crate) fn least(edges: &[Edge]) -> Option<u64>
     ensures { result ≡ lowest edges.now }
 {
     let mut best = None;
@@ -30,7 +30,7 @@ fn lower(e: Edge, by: Option<u64>) -> Edge
 }
 
 /// The edges with a time subtracted from each weight.
-pub fn lower_all(kids: [Edge; 8], by: Option<u64>) -> [Edge; 8]
+pub(crate) fn lower_all(kids: [Edge; 8], by: Option<u64>) -> [Edge; 8]
     ensures { result ≡ map (lower_by by) kids }
 {
     let mut edges = kids;

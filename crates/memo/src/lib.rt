@@ -3,5 +3,3 @@
 
 pub mod diagrams;
 mod results;
-
-pub use results::{recall, remember};
