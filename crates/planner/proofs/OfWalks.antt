@@ -22,7 +22,7 @@ use Rattle.moves.specs.declared.entry.Move.{Move}
 use Rattle.moves.specs.Views.{slot_of}
 use Rattle.planner.specs.declared.point.Point.{Point}
 use Rattle.planner.specs.declared.point.Stride.{Stride}
-use Rattle.planner.specs.Walking.{first_peg, Ready, Stands, Leads, Led, Strides, written, Walked}
+use Rattle.planner.specs.Walking.{first_peg, Ready, Stands, Leads, Led, Strides, written, Taken, Walked}
 
 -- The slots, as the code reads them
 
@@ -117,13 +117,13 @@ pub record UnderWay (c : Contents) (m : Meaning) (time : ℕ) (old : List ℕ) (
   pub filled : sheet ≡ written taken old
   pub bound : moves + p.left ≤ time
 
-module _ (c : Contents) (m : Meaning) (ready : Ready c m) (time : ℕ) (old : List ℕ) where
+module _ (c : Contents) (m : Meaning) (law : Lawful c) (time : ℕ) (old : List ℕ) where
   pub way_begun : (p : Point) → listed p.scene ≡ c.scene → p.left ≡ time → first_peg c m c.scene ≡ Some time → UnderWay c m time old p 0 old
   way_begun p here left timed =
       record {
         taken = [];
         many = refl;
-        stands = record { within = subst (SceneOf c.settings) (sym here) (contents_told c ready.lawful).present; timed = ap (first_peg c m) here ∙ timed ∙ ap Some (sym left) };
+        stands = record { within = subst (SceneOf c.settings) (sym here) (contents_told c law).present; timed = ap (first_peg c m) here ∙ timed ∙ ap Some (sym left) };
         greedy = λ is g. subst (Greedy (table_of c.slots) (first_peg c m) is) here g;
         filled = refl;
         bound = omega arith;
@@ -151,16 +151,24 @@ module _ (c : Contents) (m : Meaning) (ready : Ready c m) (time : ℕ) (old : Li
         bound = omega (arith, l.less, w.bound);
       }
 
-  pub way_ended : first_peg c m c.scene ≡ Some time → (p : Point) (moves : ℕ) (sheet : List ℕ) → UnderWay c m time old p moves sheet → p.left ≡ 0 → Walked c time old moves sheet
-  way_ended timed p moves sheet w z =
-      let whole : Greedy (table_of c.slots) (first_peg c m) w.taken c.scene =
-      subst (λ js. Greedy (table_of c.slots) (first_peg c m) js c.scene) (append-nil w.taken) (w.greedy [] (w.stands.timed ∙ ap Some z)) in
+  pub way_ended : (p : Point) (moves : ℕ) (sheet : List ℕ) → UnderWay c m time old p moves sheet → p.left ≡ 0 → Taken c m old moves sheet
+  way_ended p moves sheet w z =
       record {
         moves = w.taken;
-        best = walks_best c ready.lawful (first_peg c m) ready.right time timed w.taken whole;
+        greedy = subst (λ js. Greedy (table_of c.slots) (first_peg c m) js c.scene) (append-nil w.taken) (w.greedy [] (w.stands.timed ∙ ap Some z));
         counted = w.many;
         filled = w.filled;
       }
+
+-- by the least times that walk is the best way
+pub walked_best : (c : Contents) (m : Meaning) → Ready c m → (time : ℕ) → first_peg c m c.scene ≡ Some time → (old : List ℕ) (n : ℕ) (new : List ℕ) → Taken c m old n new → Walked c time old n new
+walked_best c m ready time timed old n new w =
+    record {
+      moves = w.moves;
+      best = walks_best c ready.lawful (first_peg c m) ready.right time timed w.moves w.greedy;
+      counted = w.counted;
+      filled = w.filled;
+    }
 
 -- past the end nothing is set
 pub set_past : (xs : List ℕ) (i x : ℕ) → length xs ≤ i → xs ≡ set xs i x

@@ -1,5 +1,9 @@
 -- Where a move leads, and whether it loses no time. Assumes nothing.
-use Rattle.std.proofs.Common.{◌≡◌, ℕ, ◌+◌, ◌-◌, ◌<◌, ◌≤◌, ◌==◌, Bool, true, false, cond, not, eqb, leb, List, [], ◌∷◌, length, Some, None, Ok, Err, Result, sym, refl, ap, ◌∙◌, subst, arith}
+use Rattle.std.proofs.Common.{◌≡◌, ℕ, ◌+◌, ◌-◌, ◌≤◌, ◌==◌, Bool, true, false, cond, not, eqb, leb, List, [], ◌∷◌, length, Some, None, Ok, Err, Result, sym, refl, ap, ◌∙◌, subst, arith}
+use Rattle.std.proofs.Math.Logic.{∥∥₁_elim}
+use mathlib.Core.Bool.{Bool-set}
+use mathlib.Core.List.{is_set}
+use native.Mathlib.Nat.{ℕ_set}
 use Rattle.std.proofs.lemmas.Bool.{lt-leb}
 use Rattle.std.specs.Bool.{then_some, Decides}
 use Rattle.std.proofs.lemmas.Bool.Decides.{nat_tests, Decides-eqb}
@@ -43,17 +47,24 @@ pub answered : {X : Type 0} (r : Result X ShelfFault) (x : X) → numbered r ≡
 answered (Ok y) x e = let same : y ≡ x = cc in ap Ok same
 answered (Err f) x e = absurd (err_is_not_ok _ _ e)
 
+-- what a walk's type says of the shelf
+pub ready_shape : {c : Contents} {m : Meaning} → ∥ Ready c m ∥₁ → m.shape ≡ c.settings
+ready_shape h = ∥∥₁_elim h (is_set ℕ_set _ _) (λ r. r.shape)
+
+pub ready_hung : {c : Contents} {m : Meaning} → ∥ Ready c m ∥₁ → bare m.pegs 0 ≡ false
+ready_hung h = ∥∥₁_elim h (Bool-set _ _) (λ r. r.hung)
+
 -- what was said of a slice holds of what it lends
 pub said_of : (b : Bool) (s s' : Scene) (ps ps' : List model.Pair) → s' ≡ s → ps' ≡ ps → b ≡ all_hold s' ps' → all_hold s ps ≡ b
 said_of b s s' ps ps' es eps h = sym (h ∙ ap (λ t. all_hold t ps') es ∙ ap (all_hold s) eps)
 
-none_is_not : {X : Type 0} (x : X) → None ≡ Some x → ⊥
+pub none_is_not : {X : Type 0} (x : X) → None ≡ Some x → ⊥
 none_is_not x e = let z : ◌≡◌ {A = ℕ} 0 1 = cc in absurd (omega arith)
 
 some_is : {X : Type 0} (x y : X) → Some x ≡ Some y → x ≡ y
 some_is x y e = cc
 
-module _ (c : Contents) (m : Meaning) (ready : Ready c m) (p : Point) (stands : Stands c m p) (a : model.Move) (law : LawfulMove c.settings a) where
+module _ (c : Contents) (m : Meaning) (p : Point) (stands : Stands c m p) (a : model.Move) (law : LawfulMove c.settings a) where
   abbrev v : Scene → Time
   v = first_peg c m
 
@@ -63,27 +74,17 @@ module _ (c : Contents) (m : Meaning) (ready : Ready c m) (p : Point) (stands : 
   by_conditions : (b : Bool) → all_hold (listed p.scene) a.conditions ≡ b → through (Some (action_of a)) v (listed p.scene) ≡ cond b (later (time a (listed p.scene)) (v next)) None
   by_conditions b e = ap (λ d. cond d (later (time a (listed p.scene)) (v next)) None) e
 
-  -- a condition does not hold
-  pub unmet : all_hold (listed p.scene) a.conditions ≡ false → Led c m p (Some (action_of a)) None
-  unmet e h = none_is_not _ (sym (by_conditions false e) ∙ h)
-
   module _ (met : all_hold (listed p.scene) a.conditions ≡ true) where
     -- what is left after it
     later_is : (o : Time) → later (time a (listed p.scene)) o ≡ Some p.left → (u : ℕ) × (o ≡ Some u) × (time a (listed p.scene) + u ≡ p.left)
     later_is None e = absurd (none_is_not _ e)
     later_is (Some u) e = (u, refl, some_is _ _ e)
 
-    -- it takes too long
-    pub too_long : p.left < time a (listed p.scene) → Led c m p (Some (action_of a)) None
-    too_long l h =
-        let k = later_is (v next) (sym (by_conditions true met) ∙ h) in
-        omega (arith, k.2)
-
     pub next_within : SceneOf c.settings next
     next_within = (lawful_action c.settings a law).keeps (listed p.scene) stands.within met
 
-    pub next_within_shelf : (t : Scene) → t ≡ next → SceneOf m.shape t
-    next_within_shelf t e = subst (λ x. SceneOf m.shape x) (sym e) (subst (λ ns. SceneOf ns next) (sym ready.shape) next_within)
+    pub next_within_shelf : m.shape ≡ c.settings → (t : Scene) → t ≡ next → SceneOf m.shape t
+    next_within_shelf same t e = subst (λ x. SceneOf m.shape x) (sym e) (subst (λ ns. SceneOf ns next) (sym same) next_within)
 
     -- there is no time, or another one, from where it leads
     pub loses : (o : Time) → v next ≡ o → (o ≡ Some (p.left - time a (listed p.scene)) → ⊥) → Led c m p (Some (action_of a)) None
@@ -115,5 +116,5 @@ module _ (c : Contents) (m : Meaning) (ready : Ready c m) (p : Point) (stands : 
         go false d = loses (Some u) after (λ z. let y : ◌≡◌ {A = Bool} false true = d.1 (some_is _ _ z ∙ sym is) in let n : ◌≡◌ {A = ℕ} 0 1 = cc in absurd (omega arith))
 
 -- peg 0 in the words of the shelf's own shape
-pub first_peg_is : (c : Contents) (m : Meaning) → Ready c m → (s t : Scene) (o : Time) → s ≡ t → o ≡ at m.shape (on m.pegs 0) s → first_peg c m t ≡ o
-first_peg_is c m ready s t o e h = sym (h ∙ ap (λ ns. at ns (on m.pegs 0) s) ready.shape ∙ ap (at c.settings (on m.pegs 0)) e)
+pub first_peg_is : (c : Contents) (m : Meaning) → m.shape ≡ c.settings → (s t : Scene) (o : Time) → s ≡ t → o ≡ at m.shape (on m.pegs 0) s → first_peg c m t ≡ o
+first_peg_is c m same s t o e h = sym (h ∙ ap (λ ns. at ns (on m.pegs 0) s) same ∙ ap (at c.settings (on m.pegs 0)) e)

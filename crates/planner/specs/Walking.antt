@@ -9,6 +9,7 @@ use Rattle.model.specs.Shelves.{Meaning, on, bare}
 use Rattle.theory.specs.Actions.{Action, numbered}
 use Rattle.theory.specs.Iteration.{through}
 use Rattle.theory.specs.Tables.{table_of}
+use Rattle.theory.specs.Walks.{Greedy}
 use Rattle.theory.specs.Ways.{RightFor, Best}
 use Rattle.planner.specs.declared.point.Point.{Point}
 use Rattle.planner.specs.declared.point.Stride.{Stride}
@@ -53,6 +54,13 @@ abbrev pub written : List ℕ → List ℕ → List ℕ
 written [] bytes = bytes
 written (i ∷ is) [] = []
 written (i ∷ is) (b ∷ bytes) = i ∷ written is bytes
+
+-- the walk by the times of peg 0 has so many moves, and fills the sheet's front
+pub record Taken (c : Contents) (m : Meaning) (old : List ℕ) (count : ℕ) (new : List ℕ) : Type 0 where
+  pub moves : List ℕ
+  pub greedy : Greedy (table_of c.slots) (first_peg c m) moves c.scene
+  pub counted : count ≡ length moves
+  pub filled : new ≡ written moves old
 
 -- the best way has so many moves, and fills the sheet's front
 pub record Walked (c : Contents) (time : ℕ) (old : List ℕ) (count : ℕ) (new : List ℕ) : Type 0 where

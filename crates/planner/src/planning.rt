@@ -37,11 +37,12 @@ fn best_way<S: Shelf>(
     requires timed { first_peg (contents rig.now) (S.meaning shelf.now) (contents rig.now).scene ≡ Some time }
     ensures filled { Fills (contents rig.now) time rounds sheet.old result sheet.new }
 {
-    let moves = walk(rig, shelf, time, &mut []);
+    let way = Walk { rig, shelf };
+    let moves = way.walk(time, &mut []);
     if moves > sheet.len() {
         return Err(PlanFault::SheetShort { needed: moves });
     }
-    let _ = walk(rig, shelf, time, sheet);
+    let _ = way.walk(time, sheet);
     Ok(Plan::Way {
         moves,
         time,

@@ -8,7 +8,7 @@ ghost use Rattle.theory.specs.Tables.{action_of, action_in};
 ghost use Rattle.theory.specs.Wellformed.{LawfulMove, LawfulSlot};
 ghost use Rattle.rig.specs.Rigs.{contents};
 ghost use Rattle.moves.specs.Views.{move_of, slot_of};
-ghost use Rattle.planner.specs.Walking.{first_peg, Ready, Stands, Led, Strides, Walked};
+ghost use Rattle.planner.specs.Walking.{first_peg, Ready, Stands, Led, Strides, Taken};
 
 use crate::point::*;
 use lists::limits::MOST_DEVICES;
@@ -27,51 +27,12 @@ pub(crate) fn time_from<S: Shelf>(shelf: &S, scene: &[u8]) -> Option<u64>
     shelf.at(0, scene).unwrap()
 }
 
-/// Where a move leads, if it may be made and loses no time.
-fn led_by_move<S: Shelf>(rig: &Rig, shelf: &S, point: &Point, entry: &Move) -> Option<Point>
-    requires ready { Ready (contents rig.now) (S.meaning shelf.now) }
-    requires stands { Stands (contents rig.now) (S.meaning shelf.now) point.now }
-    requires lawful { LawfulMove (contents rig.now).settings (move_of entry.now) }
-    ensures led { Led (contents rig.now) (S.meaning shelf.now) point.now (Some (action_of (move_of entry.now))) result }
-{
-    let scene = point.scene;
-    if !every_holds(entry.conditions(), scene.as_slice()) {
-        return None;
-    }
-    let time = u64::from(entry.time(scene.as_slice()));
-    let left = point.left.checked_sub(time)?;
-    let mut next = scene;
-    apply(entry.effects(), &mut next);
-    let after = time_from(shelf, next.as_slice())?;
-    (after == left).then_some(Point { scene: next, left })
-}
-
-/// Where the move of a slot leads, if there is one that may be made and loses no time.
-fn led<S: Shelf>(rig: &Rig, shelf: &S, point: &Point, slot: &Option<Move>) -> Option<Point>
-    requires ready { Ready (contents rig.now) (S.meaning shelf.now) }
-    requires stands { Stands (contents rig.now) (S.meaning shelf.now) point.now }
-    requires lawful { LawfulSlot (contents rig.now).settings (slot_of slot.now) }
-    ensures led { Led (contents rig.now) (S.meaning shelf.now) point.now (action_in (slot_of slot.now)) result }
-{
-    led_by_move(rig, shelf, point, slot.as_ref()?)
-}
-
-/// The move of the smallest number that loses no time, and where it leads.
-fn next_stride<S: Shelf>(rig: &Rig, shelf: &S, point: &Point) -> Stride
-    requires ready { Ready (contents rig.now) (S.meaning shelf.now) }
-    requires stands { Stands (contents rig.now) (S.meaning shelf.now) point.now }
-    requires far { 0 < point.now.left }
-    ensures strides { Strides (contents rig.now) (S.meaning shelf.now) point.now result }
-{
-    for (number, slot) in rig.slots().iter().enumerate() {
-        if let Some(end) = led(rig, shelf, point, slot) {
-            return Stride {
-                number: number as u8,
-                end,
-            };
-        }
-    }
-    unreachable()
+/// A rig, and a shelf whose peg 0 has the least times of all runs to a wanted scene.
+#[derive(Drop)]
+pub(crate) struct Walk<'a, S: Shelf> {
+    pub(crate) rig: &'a Rig,
+    pub(crate) shelf: &'a S,
+    ghost ready: { ∥ Ready (contents rig.now) (S.meaning shelf.now) ∥₁ },
 }
 
 /// The present scene, with the time from it.
@@ -95,19 +56,66 @@ fn note(sheet: &mut [u8], place: usize, number: u8)
     }
 }
 
-/// Takes the best way, writes the numbers of its moves as far as the sheet goes, and answers how many they are.
-pub(crate) fn walk<S: Shelf>(rig: &Rig, shelf: &S, time: u64, sheet: &mut [u8]) -> usize
-    requires ready { Ready (contents rig.now) (S.meaning shelf.now) }
-    requires timed { first_peg (contents rig.now) (S.meaning shelf.now) (contents rig.now).scene ≡ Some time }
-    ensures walked { Walked (contents rig.now) time sheet.old result sheet.new }
-{
-    let mut point = beginning(rig, time);
-    let mut moves = 0;
-    while point.left > 0 {
-        let stride = next_stride(rig, shelf, &point);
-        note(sheet, moves, stride.number);
-        moves += 1;
-        point = stride.end;
+impl<'a, S: Shelf> Walk<'a, S> {
+    /// Where a move leads, if it may be made and loses no time.
+    fn led_by_move(&self, point: &Point, entry: &Move) -> Option<Point>
+        requires stands { Stands (contents self.now.rig.now) (S.meaning self.now.shelf.now) point.now }
+        requires lawful { LawfulMove (contents self.now.rig.now).settings (move_of entry.now) }
+        ensures led { Led (contents self.now.rig.now) (S.meaning self.now.shelf.now) point.now (Some (action_of (move_of entry.now))) result }
+    {
+        let scene = point.scene;
+        // A guard: `then_some(())?` would hide the test behind a value that says nothing.
+        if !every_holds(entry.conditions(), scene.as_slice()) {
+            return None;
+        }
+        let time = u64::from(entry.time(scene.as_slice()));
+        let left = point.left.checked_sub(time)?;
+        let mut next = scene;
+        apply(entry.effects(), &mut next);
+        let after = time_from(self.shelf, next.as_slice())?;
+        (after == left).then_some(Point { scene: next, left })
     }
-    moves
+
+    /// Where the move of a slot leads, if there is one that may be made and loses no time.
+    fn led(&self, point: &Point, slot: &Option<Move>) -> Option<Point>
+        requires stands { Stands (contents self.now.rig.now) (S.meaning self.now.shelf.now) point.now }
+        requires lawful { LawfulSlot (contents self.now.rig.now).settings (slot_of slot.now) }
+        ensures led { Led (contents self.now.rig.now) (S.meaning self.now.shelf.now) point.now (action_in (slot_of slot.now)) result }
+    {
+        self.led_by_move(point, slot.as_ref()?)
+    }
+
+    /// The move of the smallest number that loses no time, and where it leads.
+    fn next_stride(&self, point: &Point) -> Stride
+        requires stands { Stands (contents self.now.rig.now) (S.meaning self.now.shelf.now) point.now }
+        requires far { 0 < point.now.left }
+        ensures strides { Strides (contents self.now.rig.now) (S.meaning self.now.shelf.now) point.now result }
+    {
+        for (number, slot) in self.rig.slots().iter().enumerate() {
+            // A cast: a number of a slot is below 255.
+            if let Some(end) = self.led(point, slot) {
+                return Stride {
+                    number: number as u8,
+                    end,
+                };
+            }
+        }
+        unreachable()
+    }
+
+    /// Takes the walk, writes the numbers of its moves as far as the sheet goes, and answers how many they are.
+    pub(crate) fn walk(&self, time: u64, sheet: &mut [u8]) -> usize
+        requires timed { first_peg (contents self.now.rig.now) (S.meaning self.now.shelf.now) (contents self.now.rig.now).scene ≡ Some time }
+        ensures taken { Taken (contents self.now.rig.now) (S.meaning self.now.shelf.now) sheet.old result sheet.new }
+    {
+        let mut point = beginning(self.rig, time);
+        let mut moves = 0;
+        while point.left > 0 {
+            let stride = self.next_stride(&point);
+            note(sheet, moves, stride.number);
+            moves += 1;
+            point = stride.end;
+        }
+        moves
+    }
 }

@@ -50,18 +50,20 @@ rule_parts c =
 
 -- n rounds were made, each of which made some scene cheaper
 pub record Going (c : Contents) (start m : Meaning) (n : ℕ) : Type 0 where
+  pub lawful : Lawful c
+  pub long : length m.pegs ≡ peg_count
   pub onward : Onward start (rounds_after c 0) m (rounds_after c n)
   pub shape : m.shape ≡ c.settings
   pub first : get_or m.pegs 0 None ≡ Some (chart_after c n)
   pub changed : (i : ℕ) → i < n → chart_after c (suc i) ≢ chart_after c i
   pub few : n ≤ count c
 
-pub going_none : (c : Contents) (m : Meaning) → m.shape ≡ c.settings → get_or m.pegs 0 None ≡ Some (chart_after c 0) → Going c m m 0
-going_none c m same first = record { onward = onward_none m (rounds_after c 0); shape = same; first = first; changed = λ i h. absurd (omega arith); few = omega arith }
+pub going_none : (c : Contents) (m : Meaning) → Lawful c → length m.pegs ≡ peg_count → m.shape ≡ c.settings → get_or m.pegs 0 None ≡ Some (chart_after c 0) → Going c m m 0
+going_none c m law long same first = record { lawful = law; long = long; onward = onward_none m (rounds_after c 0); shape = same; first = first; changed = λ i h. absurd (omega arith); few = omega arith }
 
 -- no round is counted that a number of 64 bits cannot hold
-pub count_small : (c : Contents) → Lawful c → count c ≤ 8 ^ 12
-count_small c law = omega (arith, (rounds_counted c law).few, size_most c.settings (contents_told c law).shape)
+pub count_small : {c : Contents} → Lawful c → count c ≤ 8 ^ 12
+count_small {c} law = omega (arith, (rounds_counted c law).few, size_most c.settings (contents_told c law).shape)
 
 -- the exit of a `?` counts nothing
 pub broken_uncounted : (c : Contents) (a : Result ℕ PlanFault) → is_err a ≡ true → Counted c a
@@ -80,8 +82,8 @@ compare_counts n k h = go n k h
 false_is_not_true : (b : Bool) → b ≡ false → b ≡ true → ⊥
 false_is_not_true b e f = let z : ◌≡◌ {A = Bool} false true = sym e ∙ f in let y : ◌≡◌ {A = ℕ} 0 1 = cc in absurd (omega arith)
 
-module _ (c : Contents) (law : Lawful c) {start m : Meaning} (long : length m.pegs ≡ peg_count) (n : ℕ) (g : Going c start m n)
-    (slots : List (Option model.Move)) (e : slots ≡ c.slots) where
+-- one round more
+module _ {c : Contents} {start m : Meaning} {n : ℕ} (g : Going c start m n) {slots : List (Option model.Move)} (e : slots ≡ c.slots) where
   split : (ys : List Step) × (rounds_after c n ≡ round (n + 1) slots ++ ys)
   split = ⊎_elim
       (λ z. ([], last_round c n z ∙ ap (round (n + 1)) (sym e) ∙ sym (append-nil (round (n + 1) slots))))
@@ -89,17 +91,17 @@ module _ (c : Contents) (law : Lawful c) {start m : Meaning} (long : length m.pe
       (compare_counts n (count c) g.few)
 
   -- the round was refused
-  pub round_broken : {X : Type 0} (k : Meaning) (f : PlanFault) (a : Result X PlanFault) → IsErrAnd a (λ y. y ≡ f) → Made {X = Unit {0}} m (round (n + 1) slots) (Err f) k → Made start (rounds_after c 0) a k
-  round_broken k f a b h = made_passed (round (n + 1) slots) split.0 k f a b (subst (Onward start (rounds_after c 0) m) split.1 g.onward) h
+  pub round_broken : {X : Type 0} {k : Meaning} (f : PlanFault) (a : Result X PlanFault) → IsErrAnd a (λ y. y ≡ f) → Made {X = Unit {0}} m (round (n + 1) slots) (Err f) k → Made start (rounds_after c 0) a k
+  round_broken {k = k} f a b h = made_passed (round (n + 1) slots) split.0 k f a b (subst (Onward start (rounds_after c 0) m) split.1 g.onward) h
 
   -- it was made
-  module _ (k : Meaning) (h : (ends m (round (n + 1) slots) ≡ Ok tt) × (k ≡ leaves m (round (n + 1) slots))) where
+  module _ {k : Meaning} (h : (ends m (round (n + 1) slots) ≡ Ok tt) × (k ≡ leaves m (round (n + 1) slots))) where
     both : (get_or k.pegs 0 None ≡ Some (chart_after c n)) × (get_or k.pegs 1 None ≡ Some (chart_after c (suc n)))
     both =
         let made : (ends m (round (n + 1) c.slots) ≡ Ok tt) × (k ≡ leaves m (round (n + 1) c.slots)) =
         subst (λ xs. (ends m (round (n + 1) xs) ≡ Ok tt) × (k ≡ leaves m (round (n + 1) xs))) e h in
         subst (λ (j : Meaning). (get_or j.pegs 0 None ≡ Some (chart_after c n)) × (get_or j.pegs 1 None ≡ Some (chart_after c (suc n)))) (sym made.1)
-        (round_leaves c law m g.shape long n g.first made.0)
+        (round_leaves c g.lawful m g.shape g.long n g.first made.0)
 
     pub hung_both : (bare k.pegs 0 ≡ false) × (bare k.pegs 1 ≡ false)
     hung_both = ((hung_peg k.pegs 0 (chart_after c n) both.0).0, (hung_peg k.pegs 1 (chart_after c (suc n)) both.1).0)
@@ -110,7 +112,7 @@ module _ (c : Contents) (law : Lawful c) {start m : Meaning} (long : length m.pe
     -- it made no scene cheaper
     module _ (same : same_chart (on k.pegs 0) (on k.pegs 1) ≡ true) where
       pub counted : n ≡ count c
-      counted = (rounds_counted c law).alone n g.changed (sym (same_is (chart_after c n) (chart_after c (suc n)) (sym compared ∙ same)))
+      counted = (rounds_counted c g.lawful).alone n g.changed (sym (same_is (chart_after c n) (chart_after c (suc n)) (sym compared ∙ same)))
 
       pub rounds_made : (ends start (rounds_after c 0) ≡ Ok tt) × (k ≡ leaves start (rounds_after c 0))
       rounds_made =
@@ -124,7 +126,7 @@ module _ (c : Contents) (law : Lawful c) {start m : Meaning} (long : length m.pe
 
       pub below_count : n < count c
       below_count = ⊎_elim
-          (λ z. absurd (cheaper_made (subst (λ i. chart_after c (suc i) ≡ chart_after c i) (sym z) (rounds_counted c law).settled)))
+          (λ z. absurd (cheaper_made (subst (λ i. chart_after c (suc i) ≡ chart_after c i) (sym z) (rounds_counted c g.lawful).settled)))
           (λ l. l)
           (compare_counts n (count c) g.few)
 
@@ -135,17 +137,19 @@ module _ (c : Contents) (law : Lawful c) {start m : Meaning} (long : length m.pe
           more {X = Unit {0}} OfFault (round (n + 1) slots) (marked (n + 1) None (copy 0 1 ∷ []) ++ rounds_after c (n + 1)) k tt (subst (Onward start (rounds_after c 0) m) parts g.onward) h
 
       -- the copy was refused
-      pub copy_broken : {X : Type 0} (j : Meaning) (f : Halt) (a : Result X PlanFault) → IsErrAnd a (λ y. y ≡ NoRoom f.fault f.call f.round None) →
+      pub copy_broken : {X : Type 0} {j : Meaning} (f : Halt) (a : Result X PlanFault) → IsErrAnd a (λ y. y ≡ NoRoom f.fault f.call f.round None) →
           Ended {X = Unit {0}} (OfHalt None) k (marked (n + 1) None (copy 0 1 ∷ [])) (Err f) j → Made start (rounds_after c 0) a j
-      copy_broken j f a b w = made_broken (marked (n + 1) None (copy 0 1 ∷ [])) (rounds_after c (n + 1)) j f a b after_round w
+      copy_broken {j = j} f a b w = made_broken (marked (n + 1) None (copy 0 1 ∷ [])) (rounds_after c (n + 1)) j f a b after_round w
 
       -- it was made
-      pub going_on : (j : Meaning) → length k.pegs ≡ peg_count → (ends k (marked (n + 1) None (copy 0 1 ∷ [])) ≡ Ok tt) × (j ≡ leaves k (marked (n + 1) None (copy 0 1 ∷ []))) → Going c start j (n + 1)
-      going_on j eight w =
+      pub going_on : {j : Meaning} → length k.pegs ≡ peg_count → length j.pegs ≡ peg_count → (ends k (marked (n + 1) None (copy 0 1 ∷ [])) ≡ Ok tt) × (j ≡ leaves k (marked (n + 1) None (copy 0 1 ∷ []))) → Going c start j (n + 1)
+      going_on {j} eight long w =
           let z : suc n ≡ n + 1 = omega arith in
           let shape_k : k.shape ≡ c.settings = ap (λ (i : Meaning). i.shape) h.1 ∙ leaves_shape m (round (n + 1) slots) ∙ g.shape in
-          let at_0 : get_or j.pegs 0 None ≡ Some (chart_after c (suc n)) = ap (λ (i : Meaning). get_or i.pegs 0 None) w.1 ∙ copy_leaves c law k shape_k eight n (n + 1) both.1 w.0 in
+          let at_0 : get_or j.pegs 0 None ≡ Some (chart_after c (suc n)) = ap (λ (i : Meaning). get_or i.pegs 0 None) w.1 ∙ copy_leaves c g.lawful k shape_k eight n (n + 1) both.1 w.0 in
           record {
+            lawful = g.lawful;
+            long = long;
             onward = more {X = Unit {0}} (OfHalt None) (marked (n + 1) None (copy 0 1 ∷ [])) (rounds_after c (n + 1)) j tt after_round w;
             shape = ap (λ (i : Meaning). i.shape) w.1 ∙ leaves_shape k (marked (n + 1) None (copy 0 1 ∷ [])) ∙ shape_k;
             first = at_0 ∙ ap (λ i. Some (chart_after c i)) z;

@@ -18,6 +18,7 @@ fn masked<S: Shelf>(round: &mut Round<S>, masks: &[u8]) -> Result<(), Halt>
     ensures took { Took S.meaning round.old (the_masked 1 masks.now) result round.new }
 {
     for (before, mask) in masks.iter().enumerate() {
+        // A cast: devices are fewer than 13, so their numbers fit a byte.
         round.add_dial(0, before as u8 + 1, admitting(*mask))?;
     }
     Ok(())
@@ -45,6 +46,7 @@ fn by_move<S: Shelf>(
     ensures number { round.new.number ≡ round.old.number }
     ensures same_shelf { round.new.shelf.ghost_name ≡ round.old.shelf.ghost_name }
 {
+    // A cast: a number of a slot is below 255.
     round
         .lowered(slot)
         .map_err(|halt| halt.in_move(number as u8))

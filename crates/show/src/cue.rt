@@ -4,6 +4,7 @@ use planner::answer::Plan;
 use steps::fault::PlanFault;
 
 /// A call that is to be made, with what it takes and the place of its reply.
+// The reply stands in each variant, for its type is the call's: beside a call it could be of another one's type.
 #[derive(Drop)]
 pub enum Cue<S> {
     /// Puts a move into a vacant slot.

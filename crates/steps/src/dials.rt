@@ -40,6 +40,7 @@ fn admitted(mask: u8, setting: u8) -> Option<u64>
 pub fn admitting(mask: u8) -> [Option<u64>; MOST_SETTINGS]
     ensures { result ≡ entries (the_admitted mask) }
 {
+    // A cast: a setting is below 8.
     array::from_fn(|setting| admitted(mask, setting as u8))
 }
 

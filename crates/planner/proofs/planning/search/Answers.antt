@@ -37,7 +37,7 @@ best_way-requires g c =
     let long = (g.met.S.Shelf.sound c.args.shelf.now).eight in
     let n = g.S.Shelf.meaning c.iterate.new.shelf in
     let k = ready rig c.args.rig.now.lawful m c.requires.shape long n c.in_ok-rounds.ensures.made in
-    record { ready = k; timed = first_peg_is rig n k c.scene.result.now rig.scene (Some c.in-Some.time) c.scene.ensures c.in-Some.ensures.value }
+    record { ready = k; timed = first_peg_is rig n k.shape c.scene.result.now rig.scene (Some c.in-Some.time) c.scene.ensures c.in-Some.ensures.value }
 
 pub returns-in-Some : goal.returns-in-Some
 returns-in-Some g c =
@@ -59,7 +59,7 @@ returns-in-None g c =
     let n = g.S.Shelf.meaning c.iterate.new.shelf in
     let made = c.in_ok-rounds.ensures.made in
     let k = ready rig c.args.rig.now.lawful m c.requires.shape long n made in
-    let none = first_peg_is rig n k c.scene.result.now rig.scene None c.scene.ensures c.in-None.ensures.value in
+    let none = first_peg_is rig n k.shape c.scene.result.now rig.scene None c.scene.ensures c.in-None.ensures.value in
     record {
       found = (rule_fits rig c.args.rig.now.lawful m c.requires.shape long n made, c.in_ok-rounds.ensures.counted, (never_none rig c.args.rig.now.lawful (first_peg rig n) k.right).0 none, refl);
       left = left_cleared rig c.args.rig.now.lawful m c.requires.shape long n made.1;
