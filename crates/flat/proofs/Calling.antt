@@ -1,6 +1,6 @@
 -- The calls of a flat shelf: when they are refused, and what they leave. Assumes nothing.
 use Rattle.std.proofs.Common.{◌≡◌, ℕ, ◌<◌, ◌≤◌, Bool, true, false, ◌&&◌, ◌||◌, ltb, leb, ◌⊎◌, List, [], ◌∷◌, length, get_or, take, None, Ok, Err, sym, refl, ap, ◌∙◌, ap₂, inl, inr, arith}
-use Rattle.std.specs.List.{AllByRecursion as All}
+use Rattle.std.specs.List.{AllByRecursion}
 use Rattle.std.proofs.lemmas.Bool.{or_left, or_right, or_from, and_right, lt-leb, le-leb}
 use Rattle.model.specs.Lists.{some}
 use Rattle.model.specs.Scenes.{Shape, Scene, size, rank}
@@ -75,7 +75,7 @@ module _ (ns : Shape) (cells : List Time) (hung : List Bool) where
         joined_rows : (op : Time → Time → Time) → zipped op (on m.pegs l) (on m.pegs r) ≡ zipped op (row cells (size ns) l) (row cells (size ns) r)
         joined_rows op = ap₂ (zipped op) (row_on ns cells hung l hl el) (row_on ns cells hung r hr er)
 
-        cheaper_checks : All (λ k. k.holds ≡ false) (call_checks m (cheaper t l r))
+        cheaper_checks : AllByRecursion (λ k. k.holds ≡ false) (call_checks m (cheaper t l r))
         cheaper_checks = (all_low t l r ht hl hr, (none_bare el er, (refl, tt)))
 
         pub cheaper_does : does m (cheaper t l r) ≡ Ok tt
@@ -94,7 +94,7 @@ module _ (ns : Shape) (cells : List Time) (hung : List Bool) where
         sum_late b f e = refuses (refuse 14 (high t || (high l || high r)) ∷ refuse 15 (bare m.pegs l || bare m.pegs r) ∷ []) 16 (late (plus (greatest (on m.pegs l)) (greatest (on m.pegs r)))) (no_room m (sum t l r) ∷ []) tt (all_low t l r ht hl hr, (none_bare el er, tt)) (sum_of ∙ sym f ∙ e)
 
         module _ (b : Bool) (told : b ≡ late (plus (greatest (row cells (size ns) l)) (greatest (row cells (size ns) r)))) (timely : b ≡ false) where
-          sum_checks : All (λ k. k.holds ≡ false) (call_checks m (sum t l r))
+          sum_checks : AllByRecursion (λ k. k.holds ≡ false) (call_checks m (sum t l r))
           sum_checks = (all_low t l r ht hl hr, (none_bare el er, (sum_of ∙ sym told ∙ timely, (refl, tt))))
 
           pub sum_does : does m (sum t l r) ≡ Ok tt
@@ -128,7 +128,7 @@ module _ (ns : Shape) (cells : List Time) (hung : List Bool) where
 
   -- A dial
   module _ (t v : ℕ) (es : List Time) (device : v < length ns) (ht : t < 8) (timely : some late (take (get_or ns v 0) es) ≡ false) where
-    dial_checks : All (λ k. k.holds ≡ false) (call_checks m (dial t v es))
+    dial_checks : AllByRecursion (λ k. k.holds ≡ false) (call_checks m (dial t v es))
     dial_checks = (lt-leb (length ns) v device, (low_peg t ht, (timely, (refl, tt))))
 
     pub dial_legal : Sound m → some late (dialled ns v es) ≡ false
@@ -146,7 +146,7 @@ module _ (ns : Shape) (cells : List Time) (hung : List Bool) where
             put_rows : put_chart ns v d (on m.pegs a) ≡ put_chart ns v d (row cells (size ns) a)
             put_rows = ap (put_chart ns v d) (row_on ns cells hung a ha ea)
 
-            put_checks : All (λ k. k.holds ≡ false) (call_checks m (put t a v d))
+            put_checks : AllByRecursion (λ k. k.holds ≡ false) (call_checks m (put t a v d))
             put_checks = (lt-leb (length ns) v device, (setting_low, (low_pegs t a ht ha, (bare_at ns cells hung a ha true ea, (refl, tt)))))
 
             pub put_does : does m (put t a v d) ≡ Ok tt
