@@ -10,13 +10,7 @@ ghost use Rattle.build.specs.Grew.{nodes_in, shape_in, Grew};
 ghost use Rattle.dials.specs.Flats.{flat, lifted};
 
 use build::node_store::NodeStore;
-use nodes::edge::Edge;
-
-/// An edge that is never throughout, past a device's last setting.
-const NO_EDGE: Edge = Edge {
-    weight: None,
-    child: 0,
-};
+use nodes::edge::{Edge, NEVER};
 
 /// The edge of a level whose chart gives a scene what the chart of `e`, an edge of the level `from`, gives it, or none
 /// where no slot is free for a part of it.
@@ -58,7 +52,7 @@ fn fan(store: &mut NodeStore, level: usize, entries: &[Option<u64>; 8]) -> Optio
     ensures built { Built (nodes_in store.new) (shape_in store.old) level (dialled (drop level (shape_in store.old)) 0 entries.now) result }
 {
     let count = store.count(level);
-    let mut kids = [NO_EDGE; 8];
+    let mut kids = [NEVER; 8];
     for (i, entry) in entries[..count].iter().enumerate() {
         kids[i] = constant(store, level + 1, *entry)?;
     }

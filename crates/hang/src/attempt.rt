@@ -14,6 +14,7 @@ use puts::put;
 use table::slots::taken;
 
 /// The edge of two pegs joined.
+// The pegs stand beside the diagrams and in no struct with them: here they are read while nodes are made.
 fn join_pegs(
     diagrams: &mut Diagrams,
     op: Op,

@@ -11,14 +11,8 @@ ghost use Rattle.puts.specs.Puts as puts;
 
 use build::reach::raise;
 use memo::diagrams::Diagrams;
-use nodes::edge::Edge;
+use nodes::edge::{Edge, NEVER};
 use nodes::remembered::{Key, Operation, Remembered};
-
-/// An edge that is never throughout, past a device's last setting.
-const NO_EDGE: Edge = Edge {
-    weight: None,
-    child: 0,
-};
 
 /// The edge whose chart gives a scene what the chart of `e` gives once the device is at the setting, or none where no
 /// slot is free for one of its parts.
@@ -54,7 +48,7 @@ pub fn put(diagrams: &mut Diagrams, level: usize, device: u8, setting: u8, e: Ed
         return Some(raise(known, w));
     }
     let count = diagrams.store.count(level);
-    let mut kids = [NO_EDGE; 8];
+    let mut kids = [NEVER; 8];
     for (i, edge) in node.edges[..count].iter().enumerate() {
         kids[i] = put(diagrams, level + 1, device, setting, *edge)?;
     }
