@@ -41,6 +41,9 @@ pub record Sides (op : Op) (nodes : List (Option Node)) (shape : Shape) (l : ℕ
   pub hb : b.weight ≡ Some wb
   pub hw : ws ≡ split_of op wa wb
 
+pub sides_of : {op : Op} {nodes : List (Option Node)} {shape : Shape} {l : ℕ} {a b : Edge} {wa wb : ℕ} {ws : Weights} → Joinable op nodes shape l a b → a.weight ≡ Some wa → b.weight ≡ Some wb → ws ≡ split_of op wa wb → Sides op nodes shape l a b wa wb ws
+sides_of able ha hb hw = record { able = able; ha = ha; hb = hb; hw = hw }
+
 module _ {op : Op} {nodes : List (Option Node)} {shape : Shape} {l : ℕ} {a b : Edge} {wa wb : ℕ} {ws : Weights} (s : Sides op nodes shape l a b wa wb ws) where
   -- the chart of what is left
   abbrev inner : Chart
@@ -93,7 +96,37 @@ rest_grew old new {op} {l} {a} {b} s g = grew_alike old new l (inner s) (goal op
 
 -- Two edges with times to nodes
 
-module _ (op : Op) (old : NodeStore) (l : ℕ) (x y : TimedEdge) (lt : l < length (shape_in old)) (able : Joinable op (nodes_in old) (shape_in old) l (edge_of x) (edge_of y)) where
+pub record Pair (op : Op) (old : NodeStore) (l : ℕ) (x y : TimedEdge) : Type 0 where
+  pub lt : l < length (shape_in old)
+  pub able : Joinable op (nodes_in old) (shape_in old) l (edge_of x) (edge_of y)
+
+pub pair_of : (op : Op) (old : NodeStore) (l : ℕ) (x y : TimedEdge) → l < length (shape_in old) → Joinable op (nodes_in old) (shape_in old) l (edge_of x) (edge_of y) → Pair op old l x y
+pair_of op old l x y lt able = record { lt = lt; able = able }
+
+-- the edges that the two nodes have for a setting, raised, once the kids before it stand
+pub record Next (op : Op) (old mid : NodeStore) (l : ℕ) (x y : TimedEdge) (i : ℕ) (kids : List Edge) (d e : Edge) : Type 0 where
+  pub pair : Pair op old l x y
+  pub below : i < get_or (shape_in old) l 0
+  pub way : Begun old mid l (goal op (nodes_in old) (shape_in old) l (edge_of x) (edge_of y)) i kids
+  pub left : d ≡ raised (Some x.weight) (get_or (node_at (nodes_in old) x.child).edges i none_edge)
+  pub right : e ≡ raised (Some y.weight) (get_or (node_at (nodes_in old) y.child).edges i none_edge)
+
+pub next_of : {op : Op} {old mid : NodeStore} {l : ℕ} {x y : TimedEdge} {i n : ℕ} {kids : List Edge} {d e : Edge} {p q : Node} → Pair op old l x y → Begun old mid l (goal op (nodes_in old) (shape_in old) l (edge_of x) (edge_of y)) i kids → n ≡ get_or (shape_in old) l 0 → i < n → p ≡ node_at (nodes_in old) x.child → q ≡ node_at (nodes_in old) y.child → d ≡ raised (Some x.weight) (get_or p.edges i none_edge) → e ≡ raised (Some y.weight) (get_or q.edges i none_edge) → Next op old mid l x y i kids d e
+next_of {x} {y} {i} pair way hn il hp hq hd he = record {
+  pair = pair;
+  below = subst (λ m. i < m) hn il;
+  way = way;
+  left = hd ∙ ap (λ (v : Node). raised (Some x.weight) (get_or v.edges i none_edge)) hp;
+  right = he ∙ ap (λ (v : Node). raised (Some y.weight) (get_or v.edges i none_edge)) hq;
+}
+
+module _ {op : Op} {old : NodeStore} {l : ℕ} {x y : TimedEdge} (pair : Pair op old l x y) where
+  lt : l < length (shape_in old)
+  lt = pair.lt
+
+  able : Joinable op (nodes_in old) (shape_in old) l (edge_of x) (edge_of y)
+  able = pair.able
+
   abbrev nodes : List (Option Node)
   nodes = nodes_in old
 
@@ -143,57 +176,15 @@ module _ (op : Op) (old : NodeStore) (l : ℕ) (x y : TimedEdge) (lt : l < lengt
         let q = sym (side_piece nodes shape old.ready.store l lt (edge_of y) y.weight (node_at nodes y.child) able.right refl refl i il) in
         (λ j. zipped (entry op) (p j) (q j)) ∙ sym (zipped_piece (entry op) (get_or shape l 0) (size ns) i (later (Some x.weight) (body nodes (drop l shape) (node_at nodes x.child))) (later (Some y.weight) (body nodes (drop l shape) (node_at nodes y.child)))) ∙ ap (λ c. piece shape l c i) (sym aim_is)
 
-    -- the same in a store that has grown
-    module _ (mid : NodeStore) (kids : List Edge) (way : Begun old mid l aim i kids) where
-      left_same : chart (nodes_in mid) (drop (l + 1) shape) left ≡ chart nodes (drop (l + 1) shape) left
-      left_same = chart_kept nodes (nodes_in mid) way.way.grows.kept shape old.ready.store (drop (l + 1) shape) (l + 1) left refl left_kid
-
-      right_same : chart (nodes_in mid) (drop (l + 1) shape) right ≡ chart nodes (drop (l + 1) shape) right
-      right_same = chart_kept nodes (nodes_in mid) way.way.grows.kept shape old.ready.store (drop (l + 1) shape) (l + 1) right refl right_kid
-
-      goal_same : goal op (nodes_in mid) shape (l + 1) left right ≡ piece shape l aim i
-      goal_same = let p = left_same in let q = right_same in (λ j. zipped (entry op) (p j) (q j)) ∙ kid_goal
-
-      joinable_here : Joinable op (nodes_in mid) shape (l + 1) left right
-      joinable_here = record {
-        left = fine_kept nodes (nodes_in mid) way.way.grows.kept (drop (l + 1) shape) (l + 1) left left_kid;
-        right = fine_kept nodes (nodes_in mid) way.way.grows.kept (drop (l + 1) shape) (l + 1) right right_kid;
-        left_timely = ap (some late) left_same ∙ side_kid_timely nodes shape old.ready.store l lt (edge_of x) x.weight (node_at nodes x.child) able.left refl refl i il able.left_timely;
-        right_timely = ap (some late) right_same ∙ side_kid_timely nodes shape old.ready.store l lt (edge_of y) y.weight (node_at nodes y.child) able.right refl refl i il able.right_timely;
-        timely = ap (some late) goal_same ∙ piece_timely shape l aim i able.timely;
-      }
-
-      module _ (d e : Edge) (hd : d ≡ left) (he : e ≡ right) where
-        pub kid_joinable : Joinable op (nodes_in mid) (shape_in mid) (l + 1) d e
-        kid_joinable =
-            let p = sym way.same in
-            let q = sym hd in
-            let r = sym he in
-            coe 0 1 (j. Joinable op (nodes_in mid) (p j) (l + 1) (q j) (r j)) joinable_here
-
-        -- what the call for a setting is to build is that piece
-        kid_is : goal op (nodes_in mid) (shape_in mid) (l + 1) d e ≡ piece shape l aim i
-        kid_is = let p = way.same in (λ j. goal op (nodes_in mid) (p j) (l + 1) (hd j) (he j)) ∙ goal_same
-
-        module _ (new : NodeStore) (g : Grew mid new (l + 1) (goal op (nodes_in mid) (shape_in mid) (l + 1) d e)) where
-          pub join_grew : Grew old new l aim
-          join_grew = grew_next old mid new l aim i kids lt way (goal op (nodes_in mid) (shape_in mid) (l + 1) d e) il kid_is g
-
-          pub join_stuck : Stuck (nodes_in new) (shape_in mid) (l + 1) (goal op (nodes_in mid) (shape_in mid) (l + 1) d e) → Stuck (nodes_in new) shape l aim
-          join_stuck s = stuck_next old mid new l aim i kids lt way (goal op (nodes_in mid) (shape_in mid) (l + 1) d e) il kid_is g s
-
-          pub join_more : (kid : Edge) → Stands (nodes_in new) (shape_in mid) (l + 1) (goal op (nodes_in mid) (shape_in mid) (l + 1) d e) kid → Begun old new l aim (i + 1) (set kids i kid)
-          join_more kid st = begun_next old mid new l aim i kids lt way (goal op (nodes_in mid) (shape_in mid) (l + 1) d e) il kid_is g kid st
-
   -- the node
-  module _ (mid : NodeStore) (kids : List Edge) (way : Begun old mid l aim (get_or shape l 0) kids) where
+  module _ {mid : NodeStore} {kids : List Edge} (way : Begun old mid l aim (get_or shape l 0) kids) where
     pub kids_ready : Kids (nodes_in mid) (get_or (shape_in mid) l 0) (drop (l + 1) (shape_in mid)) l kids
     kids_ready = begun_kids old mid mid l aim (get_or shape l 0) kids lt way aim refl aim_long
 
     pub kids_timely : some late (together (nodes_in mid) (shape_in mid) l kids) ≡ false
     kids_timely = begun_timely old mid mid l aim (get_or shape l 0) kids lt way aim refl aim_long able.timely
 
-    module _ (new : NodeStore) (g : Grew mid new l (together (nodes_in mid) (shape_in mid) l kids)) where
+    module _ {new : NodeStore} (g : Grew mid new l (together (nodes_in mid) (shape_in mid) l kids)) where
       pub join_made : Grew old new l aim
       join_made = grew_made old mid new l aim (get_or shape l 0) kids lt way aim refl aim_long g
 
@@ -213,3 +204,59 @@ module _ (op : Op) (old : NodeStore) (l : ℕ) (x y : TimedEdge) (lt : l < lengt
             right = fine_kept nodes (nodes_in new) grew.grows.kept ns l (edge_of y) able.right;
             stands = (at.0, at.1 ∙ sym (λ i. zipped (entry op) (p i) (q i)));
           })
+
+module _ {op : Op} {old mid : NodeStore} {l : ℕ} {x y : TimedEdge} {i : ℕ} {kids : List Edge} {d e : Edge} (s : Next op old mid l x y i kids d e) where
+  abbrev rest : Shape
+  rest = drop (l + 1) (shape_in old)
+
+  abbrev whole : Chart
+  whole = goal op (nodes_in old) (shape_in old) l (edge_of x) (edge_of y)
+
+  left_fine : Fine (nodes_in old) rest (l + 1) (left s.pair i s.below)
+  left_fine = left_kid s.pair i s.below
+
+  right_fine : Fine (nodes_in old) rest (l + 1) (right s.pair i s.below)
+  right_fine = right_kid s.pair i s.below
+
+  left_same : chart (nodes_in mid) rest (left s.pair i s.below) ≡ chart (nodes_in old) rest (left s.pair i s.below)
+  left_same = chart_kept (nodes_in old) (nodes_in mid) s.way.way.grows.kept (shape_in old) old.ready.store rest (l + 1) (left s.pair i s.below) refl left_fine
+
+  right_same : chart (nodes_in mid) rest (right s.pair i s.below) ≡ chart (nodes_in old) rest (right s.pair i s.below)
+  right_same = chart_kept (nodes_in old) (nodes_in mid) s.way.way.grows.kept (shape_in old) old.ready.store rest (l + 1) (right s.pair i s.below) refl right_fine
+
+  goal_same : goal op (nodes_in mid) (shape_in old) (l + 1) (left s.pair i s.below) (right s.pair i s.below) ≡ piece (shape_in old) l whole i
+  goal_same = let p = left_same in let q = right_same in (λ j. zipped (entry op) (p j) (q j)) ∙ kid_goal s.pair i s.below
+
+  joinable_here : Joinable op (nodes_in mid) (shape_in old) (l + 1) (left s.pair i s.below) (right s.pair i s.below)
+  joinable_here = record {
+    left = fine_kept (nodes_in old) (nodes_in mid) s.way.way.grows.kept rest (l + 1) (left s.pair i s.below) left_fine;
+    right = fine_kept (nodes_in old) (nodes_in mid) s.way.way.grows.kept rest (l + 1) (right s.pair i s.below) right_fine;
+    left_timely = ap (some late) left_same ∙ side_kid_timely (nodes_in old) (shape_in old) old.ready.store l s.pair.lt (edge_of x) x.weight (node_at (nodes_in old) x.child) s.pair.able.left refl refl i s.below s.pair.able.left_timely;
+    right_timely = ap (some late) right_same ∙ side_kid_timely (nodes_in old) (shape_in old) old.ready.store l s.pair.lt (edge_of y) y.weight (node_at (nodes_in old) y.child) s.pair.able.right refl refl i s.below s.pair.able.right_timely;
+    timely = ap (some late) goal_same ∙ piece_timely (shape_in old) l whole i s.pair.able.timely;
+  }
+
+  pub kid_joinable : Joinable op (nodes_in mid) (shape_in mid) (l + 1) d e
+  kid_joinable =
+      let p = sym s.way.same in
+      let q = sym s.left in
+      let r = sym s.right in
+      coe 0 1 (j. Joinable op (nodes_in mid) (p j) (l + 1) (q j) (r j)) joinable_here
+
+  -- what the call for a setting is to build is that piece
+  kid_is : goal op (nodes_in mid) (shape_in mid) (l + 1) d e ≡ piece (shape_in old) l whole i
+  kid_is =
+      let p = s.way.same in
+      let q = s.left in
+      let r = s.right in
+      (λ j. goal op (nodes_in mid) (p j) (l + 1) (q j) (r j)) ∙ goal_same
+
+  module _ {new : NodeStore} (g : Grew mid new (l + 1) (goal op (nodes_in mid) (shape_in mid) (l + 1) d e)) where
+    pub join_grew : Grew old new l whole
+    join_grew = grew_next old mid new l whole i kids s.pair.lt s.way (goal op (nodes_in mid) (shape_in mid) (l + 1) d e) s.below kid_is g
+
+    pub join_stuck : Stuck (nodes_in new) (shape_in mid) (l + 1) (goal op (nodes_in mid) (shape_in mid) (l + 1) d e) → Stuck (nodes_in new) (shape_in old) l whole
+    join_stuck t = stuck_next old mid new l whole i kids s.pair.lt s.way (goal op (nodes_in mid) (shape_in mid) (l + 1) d e) s.below kid_is g t
+
+    pub join_more : (kid : Edge) → Stands (nodes_in new) (shape_in mid) (l + 1) (goal op (nodes_in mid) (shape_in mid) (l + 1) d e) kid → Begun old new l whole (i + 1) (set kids i kid)
+    join_more kid st = begun_next old mid new l whole i kids s.pair.lt s.way (goal op (nodes_in mid) (shape_in mid) (l + 1) d e) s.below kid_is g kid st

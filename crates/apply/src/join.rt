@@ -65,6 +65,7 @@ fn join_nodes(
 {
     let key = Key {
         operation: Operation::Join(op),
+        // a shape has at most 12 devices
         level: level as u8,
         left: x.edge(),
         right: y.edge(),

@@ -2,7 +2,7 @@
 use Rattle.std.proofs.Common.{◌≡◌, ℕ, zero, suc, ◌+◌, ◌*◌, ◌<◌, ◌≤◌, false, List, [], ◌∷◌, length, get_or, take, drop, set, Some, None, Option, sym, refl, ap, ◌∙◌, subst, inl, inr, arith}
 use Rattle.std.specs.List.{AllByRecursion, flat_map}
 use Rattle.std.proofs.lemmas.Bool.{cases_eq}
-use Rattle.std.proofs.lemmas.List.{drop_more, drop_all, get_or-map, get_or-set_same, get_or-set_other}
+use Rattle.std.proofs.lemmas.List.{drop_more, get_or-map, get_or-set_same, get_or-set_other}
 use Rattle.table.specs.Tables.{slot}
 use Rattle.nodes.specs.declared.edge.Edge.{Edge}
 use Rattle.nodes.specs.declared.node.Node.{Node}
@@ -50,16 +50,14 @@ highest_at nodes ns (e ∷ es) (suc k) l h = highest_at nodes ns es k (omega ari
 
 -- An edge to be copied
 
-pub copy_leaf : (source nodes : List (Option Node)) (shape : Shape) (l : ℕ) (e : Edge) → l ≡ length shape → Fine source (drop l shape) l e → Stands nodes shape l (chart source (drop l shape) e) e
-copy_leaf source nodes shape l e at f =
-    let p = drop_all l shape (omega arith) in
-    subst (λ (t : Shape). Fine nodes t l e × (chart nodes t e ≡ chart source t e)) (sym p) (subst (λ (t : Shape). Fine source t l e) p f, refl)
-
 -- an edge to be copied, at a level that a device remains for
 pub record Side (source : List (Option Node)) (shape : Shape) (l : ℕ) (e : Edge) : Type 0 where
   pub store : Store source shape
   pub lt : l < length shape
   pub fine : Fine source (drop l shape) l e
+
+pub side_at : (source : NodeStore) (l : ℕ) (e : Edge) → l < length (shape_in source) → Fine (nodes_in source) (drop l (shape_in source)) l e → Side (nodes_in source) (shape_in source) l e
+side_at source l e lt fine = record { store = source.ready.store; lt = lt; fine = fine }
 
 -- what stands at a setting of the device
 pub record Item (source : List (Option Node)) (shape : Shape) (l : ℕ) (e : Edge) (i : ℕ) (kid : Edge) : Type 0 where

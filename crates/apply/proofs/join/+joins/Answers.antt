@@ -1,15 +1,12 @@
 use Rattle.std.proofs.Common.{◌<◌, length, get_or, Some, None, sym, ap, ◌∙◌, arith, rules}
-use Rattle.nodes.specs.declared.node.Node.{Node}
 use Rattle.nodes.specs.declared.remembered.Operation.TheVariants.{Join}
 use Rattle.model.specs.Charts.{late}
-use Rattle.store.specs.Stores.{none_edge}
-use Rattle.build.specs.Builds.{raised}
 use Rattle.build.specs.Grew.{nodes_in, shape_in}
 use Rattle.build.proofs.Grown.{ready_in}
 use Rattle.build.proofs.Sides.{weight_timely}
 use Rattle.memo.specs.Results.{Right}
 use Rattle.apply.proofs.Answering.{answer_left, answer_right, answer_leaf, answer_same}
-use Rattle.apply.proofs.Joining.{Sides, rest_joinable, rest_stuck, rest_timely, rest_stands, rest_grew, raise_left, raise_right, kid_joinable, join_grew, join_stuck, join_more, kids_ready, kids_timely, join_made, join_built, join_right}
+use Rattle.apply.proofs.Joining.{sides_of, pair_of, next_of, rest_joinable, rest_stuck, rest_timely, rest_stands, rest_grew, raise_left, raise_right, kid_joinable, join_grew, join_stuck, join_more, kids_ready, kids_timely, join_made, join_built, join_right}
 use Rattle.apply.proofs.join.+joins.Goals as goal
 
 pub join-returns-in_default-clause-built : goal.join-returns-in_default-clause-built
@@ -42,15 +39,14 @@ join-returns-then-a-b-clause-built t c =
 
 pub join-join_nodes-requires : goal.join-join_nodes-requires
 join-join_nodes-requires t c =
-    let store = c.args.diagrams.now.store in
-    let sides : Sides c.args.op (nodes_in store) (shape_in store) c.args.level c.args.a c.args.b c.in-Some.wa c.in-Some-weight.wb c.split-weights.result = record { able = c.requires.joinable; ha = c.in-Some.is; hb = c.in-Some-weight.is; hw = c.split-weights.ensures } in
+    let sides = sides_of c.requires.joinable c.in-Some.is c.in-Some-weight.is c.split-weights.ensures in
     (search rules, (omega arith, rest_joinable sides))
 
 pub join-returns-in_err-rest : goal.join-returns-in_err-rest
 join-returns-in_err-rest t c =
     let store = c.args.diagrams.now.store in
     let new = c.join_nodes.new.diagrams.store in
-    let sides : Sides c.args.op (nodes_in store) (shape_in store) c.args.level c.args.a c.args.b c.in-Some.wa c.in-Some-weight.wb c.split-weights.result = record { able = c.requires.joinable; ha = c.in-Some.is; hb = c.in-Some-weight.is; hw = c.split-weights.ensures } in
+    let sides = sides_of c.requires.joinable c.in-Some.is c.in-Some-weight.is c.split-weights.ensures in
     let got = c.in_err-rest.ensures in
     record { grew = rest_grew store new sides got.grew; built = rw c.from_residual.ensures (rest_stuck sides (nodes_in new) got.built) }
 
@@ -58,7 +54,7 @@ pub join-raise-requires : goal.join-raise-requires
 join-raise-requires t c =
     let store = c.args.diagrams.now.store in
     let new = c.join_nodes.new.diagrams.store in
-    let sides : Sides c.args.op (nodes_in store) (shape_in store) c.args.level c.args.a c.args.b c.in-Some.wa c.in-Some-weight.wb c.split-weights.result = record { able = c.requires.joinable; ha = c.in-Some.is; hb = c.in-Some-weight.is; hw = c.split-weights.ensures } in
+    let sides = sides_of c.requires.joinable c.in-Some.is c.in-Some-weight.is c.split-weights.ensures in
     let got = c.in_ok-rest.ensures in
     rest_timely sides (nodes_in new) (ready_in store new got.grew.same).store c.in_ok-rest.rest got.built
 
@@ -66,63 +62,69 @@ pub join-returns : goal.join-returns
 join-returns t c =
     let store = c.args.diagrams.now.store in
     let new = c.join_nodes.new.diagrams.store in
-    let sides : Sides c.args.op (nodes_in store) (shape_in store) c.args.level c.args.a c.args.b c.in-Some.wa c.in-Some-weight.wb c.split-weights.result = record { able = c.requires.joinable; ha = c.in-Some.is; hb = c.in-Some-weight.is; hw = c.split-weights.ensures } in
+    let sides = sides_of c.requires.joinable c.in-Some.is c.in-Some-weight.is c.split-weights.ensures in
     let got = c.in_ok-rest.ensures in
     record { grew = rest_grew store new sides got.grew; built = rest_stands sides (nodes_in new) (ready_in store new got.grew.same).store c.in_ok-rest.rest got.built c.raise.result c.raise.ensures }
 
 pub join_nodes-make-requires-clause-kids : goal.join_nodes-make-requires-clause-kids
-join_nodes-make-requires-clause-kids t c = kids_ready c.args.op c.args.diagrams.now.store c.args.level c.args.x c.args.y c.requires.depth c.requires.joinable c.join_kids.new.diagrams.store c.in_ok-kids.kids c.in_ok-kids.ensures
+join_nodes-make-requires-clause-kids t c =
+    let pair = pair_of c.args.op c.args.diagrams.now.store c.args.level c.args.x c.args.y c.requires.depth c.requires.joinable in
+    kids_ready pair c.in_ok-kids.ensures
 
 pub join_nodes-make-requires-clause-timely : goal.join_nodes-make-requires-clause-timely
-join_nodes-make-requires-clause-timely t c = kids_timely c.args.op c.args.diagrams.now.store c.args.level c.args.x c.args.y c.requires.depth c.requires.joinable c.join_kids.new.diagrams.store c.in_ok-kids.kids c.in_ok-kids.ensures
+join_nodes-make-requires-clause-timely t c =
+    let pair = pair_of c.args.op c.args.diagrams.now.store c.args.level c.args.x c.args.y c.requires.depth c.requires.joinable in
+    kids_timely pair c.in_ok-kids.ensures
 
 pub join_nodes-returns-in_err-result : goal.join_nodes-returns-in_err-result
 join_nodes-returns-in_err-result t c =
+    let pair = pair_of c.args.op c.args.diagrams.now.store c.args.level c.args.x c.args.y c.requires.depth c.requires.joinable in
     let got = c.in_err-result.ensures in
-    record { grew = join_made c.args.op c.args.diagrams.now.store c.args.level c.args.x c.args.y c.requires.depth c.requires.joinable c.join_kids.new.diagrams.store c.in_ok-kids.kids c.in_ok-kids.ensures c.make.new.self.store got.grew; built = rw c.from_residual-in_err-result.ensures (join_built c.args.op c.args.diagrams.now.store c.args.level c.args.x c.args.y c.requires.depth c.requires.joinable c.join_kids.new.diagrams.store c.in_ok-kids.kids c.in_ok-kids.ensures c.make.new.self.store got.grew None got.built) }
+    record { grew = join_made pair c.in_ok-kids.ensures got.grew; built = rw c.from_residual-in_err-result.ensures (join_built pair c.in_ok-kids.ensures got.grew None got.built) }
 
 pub join_nodes-remember-requires : goal.join_nodes-remember-requires
 join_nodes-remember-requires t c =
+    let pair = pair_of c.args.op c.args.diagrams.now.store c.args.level c.args.x c.args.y c.requires.depth c.requires.joinable in
     let got = c.in_ok-result.ensures in
     let p = sym c.edge.ensures in
     let q = sym c.edge-2.ensures in
     let new = c.make.new.self.store in
-    record { right = coe 0 1 (i. Right (nodes_in new) (shape_in new) (record { operation = Join c.args.op; level = c.args.level; left = p i; right = q i }) c.in_ok-result.result) (join_right c.args.op c.args.diagrams.now.store c.args.level c.args.x c.args.y c.requires.depth c.requires.joinable c.join_kids.new.diagrams.store c.in_ok-kids.kids c.in_ok-kids.ensures c.make.new.self.store got.grew c.in_ok-result.result got.built) }
+    record { right = coe 0 1 (i. Right (nodes_in new) (shape_in new) (record { operation = Join c.args.op; level = c.args.level; left = p i; right = q i }) c.in_ok-result.result) (join_right pair c.in_ok-kids.ensures got.grew c.in_ok-result.result got.built) }
 
 pub join_nodes-returns : goal.join_nodes-returns
 join_nodes-returns t c =
+    let pair = pair_of c.args.op c.args.diagrams.now.store c.args.level c.args.x c.args.y c.requires.depth c.requires.joinable in
     let got = c.in_ok-result.ensures in
-    rw c.remember.ensures.store (record { grew = join_made c.args.op c.args.diagrams.now.store c.args.level c.args.x c.args.y c.requires.depth c.requires.joinable c.join_kids.new.diagrams.store c.in_ok-kids.kids c.in_ok-kids.ensures c.make.new.self.store got.grew; built = join_built c.args.op c.args.diagrams.now.store c.args.level c.args.x c.args.y c.requires.depth c.requires.joinable c.join_kids.new.diagrams.store c.in_ok-kids.kids c.in_ok-kids.ensures c.make.new.self.store got.grew (Some c.in_ok-result.result) got.built })
+    rw c.remember.ensures.store (record { grew = join_made pair c.in_ok-kids.ensures got.grew; built = join_built pair c.in_ok-kids.ensures got.grew (Some c.in_ok-result.result) got.built })
 
 pub join_kids-raise-d-requires : goal.join_kids-raise-d-requires
 join_kids-raise-d-requires t c =
+    let pair = pair_of c.args.op c.args.diagrams.now.store c.args.level c.args.x c.args.y c.requires.depth c.requires.joinable in
     let il : c.loop-i.i < get_or (shape_in c.args.diagrams.now.store) c.args.level 0 = omega (arith, c.count-i-end.ensures.value) in
-    rw c.node_at-left.ensures.value (raise_left c.args.op c.args.diagrams.now.store c.args.level c.args.x c.args.y c.requires.depth c.requires.joinable c.loop-i.i il)
+    rw c.node_at-left.ensures.value (raise_left pair c.loop-i.i il)
 
 pub join_kids-raise-e-requires : goal.join_kids-raise-e-requires
 join_kids-raise-e-requires t c =
+    let pair = pair_of c.args.op c.args.diagrams.now.store c.args.level c.args.x c.args.y c.requires.depth c.requires.joinable in
     let il : c.loop-i.i < get_or (shape_in c.args.diagrams.now.store) c.args.level 0 = omega (arith, c.count-i-end.ensures.value) in
-    rw c.node_at-right.ensures.value (raise_right c.args.op c.args.diagrams.now.store c.args.level c.args.x c.args.y c.requires.depth c.requires.joinable c.loop-i.i il)
+    rw c.node_at-right.ensures.value (raise_right pair c.loop-i.i il)
 
 pub join_kids-join-requires : goal.join_kids-join-requires
 join_kids-join-requires t c =
-    let il : c.loop-i.i < get_or (shape_in c.args.diagrams.now.store) c.args.level 0 = omega (arith, c.count-i-end.ensures.value) in
-    let hd = c.raise-d.ensures ∙ ap (λ (n : Node). raised (Some c.args.x.weight) (get_or n.edges c.loop-i.i none_edge)) c.node_at-left.ensures.value in
-    let he = c.raise-e.ensures ∙ ap (λ (n : Node). raised (Some c.args.y.weight) (get_or n.edges c.loop-i.i none_edge)) c.node_at-right.ensures.value in
-    (omega (arith, ap length c.loop-i.invariant.same, c.requires.depth), (omega (arith, ap length c.loop-i.invariant.same), kid_joinable c.args.op c.args.diagrams.now.store c.args.level c.args.x c.args.y c.requires.depth c.requires.joinable c.loop-i.i il c.loop-i.diagrams.store c.loop-i.kids c.loop-i.invariant c.raise-d.result c.raise-e.result hd he))
+    let pair = pair_of c.args.op c.args.diagrams.now.store c.args.level c.args.x c.args.y c.requires.depth c.requires.joinable in
+    let next = next_of pair c.loop-i.invariant c.count-i-end.ensures.value c.loop-i-test.true c.node_at-left.ensures.value c.node_at-right.ensures.value c.raise-d.ensures c.raise-e.ensures in
+    (omega (arith, ap length c.loop-i.invariant.same, c.requires.depth), (omega (arith, ap length c.loop-i.invariant.same), kid_joinable next))
 
 pub join_kids-returns-in_err-kids : goal.join_kids-returns-in_err-kids
 join_kids-returns-in_err-kids t c =
-    let il : c.loop-i.i < get_or (shape_in c.args.diagrams.now.store) c.args.level 0 = omega (arith, c.count-i-end.ensures.value) in
-    let hd = c.raise-d.ensures ∙ ap (λ (n : Node). raised (Some c.args.x.weight) (get_or n.edges c.loop-i.i none_edge)) c.node_at-left.ensures.value in
-    let he = c.raise-e.ensures ∙ ap (λ (n : Node). raised (Some c.args.y.weight) (get_or n.edges c.loop-i.i none_edge)) c.node_at-right.ensures.value in
+    let pair = pair_of c.args.op c.args.diagrams.now.store c.args.level c.args.x c.args.y c.requires.depth c.requires.joinable in
+    let next = next_of pair c.loop-i.invariant c.count-i-end.ensures.value c.loop-i-test.true c.node_at-left.ensures.value c.node_at-right.ensures.value c.raise-d.ensures c.raise-e.ensures in
     let got = c.in_err-kids.ensures in
-    rw c.from_residual.ensures (join_grew c.args.op c.args.diagrams.now.store c.args.level c.args.x c.args.y c.requires.depth c.requires.joinable c.loop-i.i il c.loop-i.diagrams.store c.loop-i.kids c.loop-i.invariant c.raise-d.result c.raise-e.result hd he c.join.new.diagrams.store got.grew, join_stuck c.args.op c.args.diagrams.now.store c.args.level c.args.x c.args.y c.requires.depth c.requires.joinable c.loop-i.i il c.loop-i.diagrams.store c.loop-i.kids c.loop-i.invariant c.raise-d.result c.raise-e.result hd he c.join.new.diagrams.store got.grew got.built)
+    rw c.from_residual.ensures (join_grew next got.grew, join_stuck next got.grew got.built)
 
 pub join_kids-loop-i-preserved : goal.join_kids-loop-i-preserved
 join_kids-loop-i-preserved t c =
-    let il : c.loop-i.i < get_or (shape_in c.args.diagrams.now.store) c.args.level 0 = omega (arith, c.count-i-end.ensures.value) in
-    let hd = c.raise-d.ensures ∙ ap (λ (n : Node). raised (Some c.args.x.weight) (get_or n.edges c.loop-i.i none_edge)) c.node_at-left.ensures.value in
-    let he = c.raise-e.ensures ∙ ap (λ (n : Node). raised (Some c.args.y.weight) (get_or n.edges c.loop-i.i none_edge)) c.node_at-right.ensures.value in
+    let pair = pair_of c.args.op c.args.diagrams.now.store c.args.level c.args.x c.args.y c.requires.depth c.requires.joinable in
+    let next = next_of pair c.loop-i.invariant c.count-i-end.ensures.value c.loop-i-test.true c.node_at-left.ensures.value c.node_at-right.ensures.value c.raise-d.ensures c.raise-e.ensures in
     let got = c.in_ok-kids.ensures in
-    join_more c.args.op c.args.diagrams.now.store c.args.level c.args.x c.args.y c.requires.depth c.requires.joinable c.loop-i.i il c.loop-i.diagrams.store c.loop-i.kids c.loop-i.invariant c.raise-d.result c.raise-e.result hd he c.join.new.diagrams.store got.grew c.in_ok-kids.field-0 got.built
+    join_more next got.grew c.in_ok-kids.field-0 got.built

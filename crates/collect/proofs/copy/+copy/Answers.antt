@@ -1,6 +1,5 @@
 use Rattle.std.proofs.Common.{sym, refl, arith, rules}
-use Rattle.build.specs.Grew.{nodes_in, shape_in}
-use Rattle.collect.proofs.Copying.{Side, item_at, all_passed, kid_fine, kid_timely, filled_grew, filled_stuck, filled_more, filled_kids, filled_timely, filled_made, filled_full, still_moved, filled_stands, filled_noted}
+use Rattle.collect.proofs.Copying.{side_at, item_at, all_passed, kid_fine, kid_timely, filled_grew, filled_stuck, filled_more, filled_kids, filled_timely, filled_made, filled_full, still_moved, filled_stands, filled_noted}
 use Rattle.collect.proofs.copy.+copy.Goals as goal
 
 pub returns-in-Some-clause-built : goal.returns-in-Some-clause-built
@@ -8,46 +7,40 @@ returns-in-Some-clause-built t c = c.requires.moved c.args.e.child c.in-Some.chi
 
 pub copy-requires : goal.copy-requires
 copy-requires t c =
-    let source = c.args.source.now in
-    let side : Side (nodes_in source) (shape_in source) c.args.level c.args.e = record { store = source.ready.store; lt = omega arith; fine = c.requires.fine } in
+    let side = side_at c.args.source.now c.args.level c.args.e (omega arith) c.requires.fine in
     let item = item_at side c.loop-i.i c.count-count.ensures.value c.node_at-node.ensures.value c.loop-i-test.true in
     (search rules, (c.loop-i.invariant.alike, (omega (arith, side.lt), (c.loop-i.invariant.noted, (kid_fine side item, kid_timely side item c.requires.timely)))))
 
 pub loop-i-preserved : goal.loop-i-preserved
 loop-i-preserved t c =
-    let source = c.args.source.now in
-    let side : Side (nodes_in source) (shape_in source) c.args.level c.args.e = record { store = source.ready.store; lt = omega arith; fine = c.requires.fine } in
+    let side = side_at c.args.source.now c.args.level c.args.e (omega arith) c.requires.fine in
     let item = item_at side c.loop-i.i c.count-count.ensures.value c.node_at-node.ensures.value c.loop-i-test.true in
     let got = c.in_ok-kids.ensures in
     filled_more c.requires.alike side c.loop-i.invariant item got.grew c.copy.new.moved c.in_ok-kids.field-0 got.built got.moved
 
 pub returns-in_err-kids : goal.returns-in_err-kids
 returns-in_err-kids t c =
-    let source = c.args.source.now in
-    let side : Side (nodes_in source) (shape_in source) c.args.level c.args.e = record { store = source.ready.store; lt = omega arith; fine = c.requires.fine } in
+    let side = side_at c.args.source.now c.args.level c.args.e (omega arith) c.requires.fine in
     let item = item_at side c.loop-i.i c.count-count.ensures.value c.node_at-node.ensures.value c.loop-i-test.true in
     let got = c.in_err-kids.ensures in
     record { grew = filled_grew c.requires.alike side c.loop-i.invariant item got.grew; moved = got.moved; built = rw c.from_residual.ensures (filled_stuck c.requires.alike side c.loop-i.invariant item got.grew got.built) }
 
 pub make-requires : goal.make-requires
 make-requires t c =
-    let source = c.args.source.now in
-    let side : Side (nodes_in source) (shape_in source) c.args.level c.args.e = record { store = source.ready.store; lt = omega arith; fine = c.requires.fine } in
+    let side = side_at c.args.source.now c.args.level c.args.e (omega arith) c.requires.fine in
     let all = all_passed side c.loop-i.i c.count-count.ensures.value c.node_at-node.ensures.value c.loop-i-test.false c.loop-i.auto.i-end in
     record { depth = rw (← c.loop-i.invariant.alike) side.lt; kids = filled_kids c.requires.alike side c.loop-i.invariant all; timely = filled_timely c.requires.alike side c.loop-i.invariant all c.requires.timely }
 
 pub returns-in_err-made : goal.returns-in_err-made
 returns-in_err-made t c =
-    let source = c.args.source.now in
-    let side : Side (nodes_in source) (shape_in source) c.args.level c.args.e = record { store = source.ready.store; lt = omega arith; fine = c.requires.fine } in
+    let side = side_at c.args.source.now c.args.level c.args.e (omega arith) c.requires.fine in
     let all = all_passed side c.loop-i.i c.count-count.ensures.value c.node_at-node.ensures.value c.loop-i-test.false c.loop-i.auto.i-end in
     let got = c.in_err-made.ensures in
     record { grew = filled_made c.requires.alike side c.loop-i.invariant all got.grew; moved = still_moved c.requires.alike side c.loop-i.invariant all got.grew; built = rw c.from_residual-in_err-made.ensures (filled_full c.requires.alike side c.loop-i.invariant all got.grew got.built) }
 
 pub returns : goal.returns
 returns t c =
-    let source = c.args.source.now in
-    let side : Side (nodes_in source) (shape_in source) c.args.level c.args.e = record { store = source.ready.store; lt = omega arith; fine = c.requires.fine } in
+    let side = side_at c.args.source.now c.args.level c.args.e (omega arith) c.requires.fine in
     let all = all_passed side c.loop-i.i c.count-count.ensures.value c.node_at-node.ensures.value c.loop-i-test.false c.loop-i.auto.i-end in
     let got = c.in_ok-made.ensures in
     record {
