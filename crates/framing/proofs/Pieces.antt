@@ -1,18 +1,11 @@
 -- What so many bytes can be. Assumes nothing.
-use Rattle.std.proofs.Common.{◌≡◌, ℕ, zero, suc, ◌-◌, ◌*◌, ◌≤◌, List, [], ◌∷◌, ◌++◌, length, take, drop, sym, refl, ap, ◌∙◌, arith, take-append-drop}
+use Rattle.std.proofs.Common.{◌≡◌, ℕ, zero, suc, ◌*◌, List, [], ◌∷◌, ◌++◌, length, take, drop, sym, refl, ap, ◌∙◌, arith, take-append-drop}
 use Rattle.std.specs.List.{flat_map, AllByRecursion}
-use Rattle.std.proofs.lemmas.List.{take_all, length-take-le, length-drop}
+use Rattle.std.proofs.lemmas.List.{length-take-le, length-drop}
 use Rattle.model.specs.Moves.{Pair}
 use Rattle.model.specs.Contents.{Name}
 use Rattle.format.specs.Bytes.{pair}
 use Rattle.format.specs.Files.{devices, Eight}
-
--- the rest behind n bytes
-pub behind : (n : ℕ) (s : List ℕ) → n ≤ length s → (length (take n s) ≡ n) × (s ≡ take n s ++ take (length s - n) (drop n s))
-behind n s h = (
-  length-take-le n s h,
-  sym (take-append-drop n s) ∙ ap (λ (u : List ℕ). take n s ++ u) (sym (take_all (length s - n) (drop n s) (let l = length-drop n s in omega (arith, l)))),
-)
 
 -- twice n bytes are n pairs
 pub paired : (n : ℕ) (xs : List ℕ) → length xs ≡ 2 * n → (ps : List Pair) × (length ps ≡ n) × (xs ≡ flat_map pair ps)

@@ -18,7 +18,7 @@ fn is_plain(header: Header, size: usize) -> bool
         && usize::from(header.total) == size
 }
 
-/// Passes over a whole file, or finds that the bytes are none.
+/// Passes over a whole file, or nothing where the bytes are no such file.
 fn pass(bytes: &[u8]) -> Option<()>
     ensures { MatchOption result (Framed bytes.now → ⊥) (λ _. Framed bytes.now) }
 {
