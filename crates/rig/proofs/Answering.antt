@@ -1,11 +1,11 @@
--- What a call answers and leaves, by the fault that it met or by what it stored. Assumes nothing.
+-- What a call answers and leaves, by the fault that it met. Assumes nothing.
 use Rattle.std.proofs.Common.{◌≡◌, ℕ, List, ◌++◌, Ok, Err, Option, Result, IsErrAnd, sym, ap, ◌∙◌}
 use Rattle.std.proofs.lemmas.Result.{err_from_is_err_and}
 use Rattle.model.specs.Scenes.{Shape}
 use Rattle.model.specs.Moves as model
 use Rattle.model.specs.Refusals.{Check, answer, left_by}
-use Rattle.model.specs.Contents.{Contents, with_slot}
-use Rattle.model.proofs.Refusing.{accepted_first, left_ok, left_err}
+use Rattle.model.specs.Contents.{Contents}
+use Rattle.model.proofs.Refusing.{accepted_first, left_err}
 use Rattle.moves.specs.declared.fault.RigFault.{RigFault}
 use Rattle.moves.specs.Faults.{number, numbered}
 
@@ -20,12 +20,8 @@ refused_by defined new old f e r h =
     record { answer = ap numbered (p.1 ∙ ap Err p.2) ∙ sym e; left = sym (left_err defined (number f) new old e) }
 
 -- the checks of a slot passed, and those by the shape were answered
-pub then_judged : (c : Contents) (first : List (Option model.Move) → List Check) (checks : Shape → List Check) (xs : List (Option model.Move)) (ns : Shape) (r : Result (Unit {0}) ℕ) → xs ≡ c.slots → ns ≡ c.settings → answer (first xs) (tt {0}) ≡ Ok (tt {0}) → answer (checks ns) (tt {0}) ≡ r → answer (first c.slots ++ checks c.settings) (tt {0}) ≡ r
-then_judged c first checks xs ns r seen shape passed e =
+pub then_judged : (c : Contents) (first : List (Option model.Move) → List Check) (checks : Shape → List Check) {xs : List (Option model.Move)} {ns : Shape} {r : Result (Unit {0}) ℕ} → xs ≡ c.slots → ns ≡ c.settings → answer (first xs) (tt {0}) ≡ Ok (tt {0}) → answer (checks ns) (tt {0}) ≡ r → answer (first c.slots ++ checks c.settings) (tt {0}) ≡ r
+then_judged c first checks {xs} {ns} {r} seen shape passed e =
     accepted_first (first c.slots) (checks c.settings) tt tt tt (ap (λ (l : List (Option model.Move)). answer (first l) tt) (sym seen) ∙ passed)
     ∙ ap (λ (k : Shape). answer (checks k) tt) (sym shape)
     ∙ e
-
--- an accepted call that wrote what it should in a slot
-pub left_written : (c : Contents) (r : Result (Unit {0}) ℕ) (n : ℕ) (o p : Option model.Move) → p ≡ o → r ≡ Ok tt → with_slot c n p ≡ left_by r (with_slot c n o) c
-left_written c r n o p same passed = ap (with_slot c n) same ∙ sym (left_ok r tt (with_slot c n o) c passed)

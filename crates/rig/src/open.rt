@@ -30,6 +30,7 @@ fn all_masks(settings: &Short<u8, MOST_DEVICES>) -> Short<u8, MOST_DEVICES>
     requires { shape_off (listed settings.now) ≡ false }
     ensures { listed result ≡ map all_of (listed settings.now) }
 {
+    // A loop, since a bounded list has no `map`.
     let mut masks = *settings;
     for (device, count) in settings.as_slice().iter().enumerate() {
         masks.set(device, mask_of_all(*count));

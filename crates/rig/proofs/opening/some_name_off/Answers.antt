@@ -1,8 +1,7 @@
-use Rattle.std.proofs.Common.{◌||◌, refl, ◌∙◌, rules, tests}
-use Rattle.std.specs.List.{list_any}
+use Rattle.std.proofs.Common.{◌∙◌, rules, tests}
 use Rattle.std.proofs.lemmas.Iterator.{YieldsList-from_slice}
 use Rattle.std.proofs.lemmas.Iterator.Search.{any_from_yields_List}
-use Rattle.std.proofs.lemmas.List.Recursion.{same_from_clauses}
+use Rattle.lists.proofs.Loops.{any_is_some}
 use Rattle.model.specs.Limits.{outside, least_byte, most_byte}
 use Rattle.model.specs.Lists.{some}
 use Rattle.rig.proofs.opening.some_name_off.Goals as goal
@@ -11,4 +10,4 @@ pub returns : goal.returns
 returns c =
     let off = some (outside least_byte most_byte) in
     any_from_yields_List off _ _ _ c.any.ensures.ran (YieldsList-from_slice c.args.names.now cc) (λ x b q k. search (rules, tests))
-    ∙ same_from_clauses (list_any off) (some off) (λ x b. off x || b) refl (λ _ _. refl) (λ _ _. refl) c.args.names.now
+    ∙ any_is_some off c.args.names.now
