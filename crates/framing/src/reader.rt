@@ -11,7 +11,7 @@ use crate::heads::*;
 fn follows(last: Option<u8>, number: u8) -> bool
     ensures { MatchBool result (Follows last number) (Follows last number → ⊥) }
 {
-    last.is_none_or(|last| last < number)
+    last < Some(number)
 }
 
 /// What is left of a file.
