@@ -15,7 +15,7 @@ use Rattle.format.specs.Bytes.{two, pair}
 use Rattle.format.specs.Files.{Entry, surcharge, entry}
 use Rattle.format.proofs.Sizes.{surcharge_long, entry_long}
 use Rattle.rigfile.specs.declared.writer.Writer.{Writer}
-use Rattle.rigfile.proofs.Written.{Ahead, begin, turn}
+use Rattle.rigfile.proofs.Written.{Ahead, begin, room, turn}
 use Rattle.rigfile.specs.Writing.{Room, Puts, pair_bytes, surcharge_bytes, slot_bytes}
 
 -- pairs of the code
@@ -49,15 +49,29 @@ module _ (number : ℕ) (m : model.Move) (cs es : List Pair) (xs : List Surcharg
   as_many_surcharges : length xs ≡ length m.surcharges
   as_many_surcharges = sym (length-map xs surcharge_of) ∙ ap length c
 
+  abbrev last : List ℕ
+  last = flat_map surcharge_bytes xs
+
+  abbrev more : List ℕ
+  more = flat_map pair_bytes es ++ last
+
   -- once the number, the lengths and the base are put, the lists are ahead
-  pub after_base :
-      (base : ℕ) → base ≡ m.base → {old mid new : Writer} → Room old (entry numbered) → Puts old (number ∷ length cs ∷ length es ∷ length xs ∷ []) mid → Puts mid (two base) new
-      → Ahead old (entry numbered) (flat_map pair_bytes cs ++ (flat_map pair_bytes es ++ flat_map surcharge_bytes xs)) new
-  after_base base e {old} enough p q =
-      let ls = flat_map pair_bytes cs ++ (flat_map pair_bytes es ++ flat_map surcharge_bytes xs) in
-      let parted : number ∷ length cs ∷ length es ∷ length xs ∷ (two base ++ ls) ≡ entry numbered =
-      λ i. number ∷ as_many_pairs cs m.conditions a i ∷ as_many_pairs es m.effects b i ∷ as_many_surcharges i ∷ (two (e i) ++ (pairs_seen cs m.conditions a i ++ (pairs_seen es m.effects b i ++ surcharges_seen i))) in
-      turn ls refl (turn (two base ++ ls) (sym parted) (begin old (entry numbered) enough) p) q
+  module _ {base : ℕ} {old mid new : Writer} (e : base ≡ m.base) (enough : Room old (entry numbered)) (p : Puts old (number ∷ length cs ∷ length es ∷ length xs ∷ []) mid) (q : Puts mid (two base) new) where
+    after_base : Ahead old (entry numbered) (flat_map pair_bytes cs ++ more) new
+    after_base =
+        let parted : number ∷ length cs ∷ length es ∷ length xs ∷ (two base ++ (flat_map pair_bytes cs ++ more)) ≡ entry numbered =
+        λ i. number ∷ as_many_pairs cs m.conditions a i ∷ as_many_pairs es m.effects b i ∷ as_many_surcharges i ∷ (two (e i) ++ (pairs_seen cs m.conditions a i ++ (pairs_seen es m.effects b i ++ surcharges_seen i))) in
+        turn (flat_map pair_bytes cs ++ more) refl (turn (two base ++ (flat_map pair_bytes cs ++ more)) (sym parted) (begin old (entry numbered) enough) p) q
+
+    pub conditions_room : Room new (flat_map pair_bytes cs)
+    conditions_room = room (flat_map pair_bytes cs) more refl after_base
+
+    module _ {then : Writer} (r : Puts new (flat_map pair_bytes cs) then) where
+      pub effects_room : Room then (flat_map pair_bytes es)
+      effects_room = room (flat_map pair_bytes es) last refl (turn more refl after_base r)
+
+      pub after_effects : {end : Writer} → Puts then (flat_map pair_bytes es) end → Ahead old (entry numbered) (flat_map surcharge_bytes xs) end
+      after_effects = turn last refl (turn more refl after_base r)
 
   pub move_size : length (entry numbered) ≡ 6 + 2 * length cs + 2 * length es + length (flat_map surcharge_bytes xs)
   move_size =

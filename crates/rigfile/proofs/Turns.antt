@@ -1,18 +1,32 @@
 -- The next item of a list, as bytes. Assumes nothing.
-use Rattle.std.proofs.Common.{◌≡◌, ℕ, ◌+◌, ◌<◌, List, [], ◌∷◌, ◌++◌, map, length, get_or, drop, filter, is_some, suc, Some, None, Option, sym, refl, ap, ◌∙◌, arith, length-append}
+use Rattle.std.proofs.Common.{◌≡◌, ℕ, ◌+◌, ◌<◌, ◌≤◌, List, [], ◌∷◌, ◌++◌, map, length, get_or, drop, filter, is_some, suc, Some, None, Option, sym, refl, ap, ◌∙◌, arith, length-append}
 use Rattle.std.specs.List.{flat_map, count_by, sum_by}
 use Rattle.std.proofs.lemmas.Grind.{flat_map-append}
-use Rattle.std.proofs.lemmas.List.{at_drop_more}
+use Rattle.std.proofs.lemmas.List.{at_drop_more, at_drop_all}
 use Rattle.std.proofs.lemmas.List.Sums.{length-filter}
 use Rattle.std.proofs.lemmas.List.Concat.{length-flat_map}
 use Rattle.moves.specs.declared.entry.Move.{Move}
 use Rattle.moves.specs.Views.{slot_of}
 use Rattle.format.specs.Files.{entry, entries}
 use Rattle.format.proofs.Tables.{entries_first}
-use Rattle.rigfile.specs.Writing.{slot_bytes, slots_bytes}
+use Rattle.rigfile.specs.declared.writer.Writer.{Writer}
+use Rattle.rigfile.specs.Writing.{Room, Puts, slot_bytes, slots_bytes}
+use Rattle.rigfile.proofs.Written.{Ahead, room, turn, ended}
 
-pub joined_left : {X : Type 0} (f : X → List ℕ) (xs : List X) (i : ℕ) (x d : X) → i < length xs → x ≡ get_or xs i d → flat_map f (drop i xs) ≡ f x ++ flat_map f (drop (i + 1) xs)
-joined_left f xs i x d lt is = at_drop_more (flat_map f) xs i d lt ∙ ap (λ u. f u ++ flat_map f (drop (i + 1) xs)) (sym is)
+-- a loop puts items, as bytes of f, and stands at the i-th
+module _ {X : Type 0} (f : X → List ℕ) (xs : List X) (i : ℕ) {old mid : Writer} (ahead : Ahead old (flat_map f xs) (flat_map f (drop i xs)) mid) where
+  module _ (x d : X) (lt : i < length xs) (is : x ≡ get_or xs i d) where
+    left : flat_map f (drop i xs) ≡ f x ++ flat_map f (drop (i + 1) xs)
+    left = at_drop_more (flat_map f) xs i d lt ∙ ap (λ u. f u ++ flat_map f (drop (i + 1) xs)) (sym is)
+
+    pub item_room : Room mid (f x)
+    item_room = room (f x) (flat_map f (drop (i + 1) xs)) left ahead
+
+    pub item_put : {new : Writer} → Puts mid (f x) new → Ahead old (flat_map f xs) (flat_map f (drop (i + 1) xs)) new
+    item_put = turn (flat_map f (drop (i + 1) xs)) left ahead
+
+  pub items_put : length xs ≤ i → Puts old (flat_map f xs) mid
+  items_put end = ended (at_drop_all (flat_map f) xs i end) ahead
 
 pub slots_left : (xs : List (Option Move)) (i : ℕ) (x d : Option Move) → i < length xs → x ≡ get_or xs i d → slots_bytes i (drop i xs) ≡ slot_bytes i x ++ slots_bytes (i + 1) (drop (i + 1) xs)
 slots_left xs i x d lt is =

@@ -9,8 +9,8 @@ ghost use Rattle.rigfile.specs.Writing.{Room, Puts, surcharge_bytes, slot_bytes,
 use crate::writer::Writer;
 use moves::entry::{Move, Surcharge};
 
-// Lengths and numbers go by `as` into a byte: a list has at most 12 items, a table 255 slots, and `try_from` would ask for a
-// refusal that cannot come.
+// Lengths and numbers go by `as` into a byte: a list has at most 12 items, a table 255 slots, and `try_from` would only add
+// an `unwrap`.
 impl Writer<'_> {
     fn surcharge(&mut self, surcharge: &Surcharge)
         requires { Room self.old (surcharge_bytes surcharge.now) }
@@ -22,7 +22,7 @@ impl Writer<'_> {
         self.pairs(tests);
     }
 
-    // A loop as in `pairs`: a trait for the two kinds of items would be longer than both loops.
+    // A loop as in `pairs`: one loop for both would take a closure or a trait, whose contract would be longer than the loop.
     fn surcharges(&mut self, surcharges: &[Surcharge])
         requires { Room self.old (flat_map surcharge_bytes surcharges.now) }
         ensures { Puts self.old (flat_map surcharge_bytes surcharges.now) self.new }

@@ -23,7 +23,10 @@ impl fmt::Display for WriteFault {
     fn fmt<W: fmt::Write>(&self, f: &mut fmt::Formatter<W>) -> fmt::Result {
         let number = self.number();
         let needed = self.needed;
-        write!(f, "refused {number}: the file has {needed} bytes")
+        write!(
+            f,
+            "refused {number}: the buffer is shorter than the file, which has {needed} bytes"
+        )
     }
 }
 

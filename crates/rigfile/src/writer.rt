@@ -7,6 +7,8 @@ ghost use Rattle.rigfile.specs.Writing.{Room, Puts, pair_bytes};
 use moves::pair::Pair;
 
 /// A buffer, and where its next byte is put.
+// Not the rest of it, cut down by `split_off_mut`: no proof knows what the buffer holds once a piece that was cut off it is
+// written.
 #[derive(Drop)]
 pub(crate) struct Writer<'a> {
     pub(crate) buffer: &'a mut [u8],
