@@ -1,18 +1,20 @@
 -- What is read of rows. Assumes nothing.
-use Rattle.std.proofs.Common.{◌≡◌, ◌||◌, Bool, List, [], ◌∷◌, Some, None, sym, refl, ap, ◌∙◌, ⊎_elim, arith}
-use Rattle.std.specs.List.{fold, reduce, list_any}
-use Rattle.std.specs.Option.{option_cmp, option_flatten}
+use Rattle.std.proofs.Common.{◌≡◌, nat_eq, [], ◌∷◌, Some, None, sym, refl, ap, ◌∙◌, ⊎_elim, arith}
+use Rattle.std.specs.List.{fold, reduce}
+use Rattle.std.specs.Option.{option_cmp, option_eq, option_flatten}
 use Rattle.std.specs.Ordering.{nat_cmp, max_by_ordering}
 use Rattle.std.specs.Cmp.{nat_cmp_is}
 use Rattle.std.specs.declared.cmp.Ordering.TheVariants.{Less, Equal, Greater}
 use Rattle.std.proofs.lemmas.Bool.{cases_order}
-use Rattle.model.specs.Lists.{some}
-use Rattle.model.specs.Charts.{Time, Chart, greater, greatest}
+use Rattle.model.specs.Charts.{Time, Chart, same_time, greater, greatest}
 use Rattle.model.proofs.Lateness.{greater_assoc}
 
-pub some_is_any : (t : Time → Bool) (xs : List Time) → list_any t xs ≡ some t xs
-some_is_any t [] = refl
-some_is_any t (x ∷ xs) = ap (λ b. t x || b) (some_is_any t xs)
+-- two entries are the same in Rust where they are in the model
+pub same_entry : (a b : Time) → option_eq nat_eq a b ≡ same_time a b
+same_entry None None = refl
+same_entry None (Some b) = refl
+same_entry (Some a) None = refl
+same_entry (Some a) (Some b) = refl
 
 -- the later of two entries in std's order, in which never is least
 abbrev pub later : Time → Time → Time

@@ -1,4 +1,4 @@
-// Rows of cells, a time or never in each: joined, dialled and put by plain loops.
+// Rows of cells, a time or never in each: joined, dialled and put.
 #![tactic(auto)]
 
 pub mod joins;
