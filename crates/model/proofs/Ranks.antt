@@ -1,9 +1,9 @@
 -- Scenes, their order and their places. Assumes nothing.
 use Rattle.std.proofs.Common.{◌≡◌, ℕ, zero, suc, ◌+◌, ◌*◌, ◌%◌, ◌<◌, ◌≤◌, false, not, eqb, leb, List, [], ◌∷◌, map, length, get_or, drop, set, None, sym, refl, ap, ◌∙◌, mul-le-mul_right, mod-lt, div-lt_iff_lt-mul, arith}
 use Rattle.std.specs.List.{range_with_len, flat_map, AllByRecursion}
-use Rattle.std.proofs.lemmas.List.{length-append, length-map, get_or_append_left, get_or-append-add, get_or-map, drop_more, get_or-set_same, get_or-set_other, ext_get_or}
+use Rattle.std.proofs.lemmas.List.{length-append, length-map, get_or_append_left, get_or-append-add, get_or-map, drop_more, ext_get_or}
 use Rattle.std.proofs.ByRecursion.{All-append, All-map, All-weaker}
-use Rattle.std.proofs.lemmas.Bool.{leb-false, lt-leb, eqb-true, eq-eqb, not-false, not_from_true, or_parts, or_from}
+use Rattle.std.proofs.lemmas.Bool.{leb-false, lt-leb, eqb-true, not-false, or_parts, or_from}
 use Rattle.model.specs.Lists.{some_two}
 use Rattle.model.specs.Scenes.{Shape, Scene, SceneOf, size, scenes, rank}
 use Rattle.model.specs.Charts.{Time, Chart, at}
@@ -85,9 +85,6 @@ rank_unrank (n ∷ ns) k h =
     let old = rank_unrank ns (k % size ns) (mod-lt k more) in
     omega arith
 
-pub scene_at : (ns : Shape) (k : ℕ) → k < size ns → get_or (scenes ns) k [] ≡ unrank ns k
-scene_at ns k h = ap (λ i. get_or (scenes ns) i []) (sym (rank_unrank ns k h)) ∙ placed ns (unrank ns k) (unrank_scene ns k h)
-
 all_rows : (n : ℕ) (ns : Shape) → AllByRecursion (SceneOf ns) (scenes ns) → (a m : ℕ) → a + m ≤ n → AllByRecursion (SceneOf (n ∷ ns)) (rows ns a m)
 all_rows n ns h a zero le = tt
 all_rows n ns h a (suc m) le =
@@ -119,13 +116,6 @@ tabulated_as ns f g h =
 pub tabulated_self : (ns : Shape) (c : Chart) → length c ≡ size ns → map (at ns c) (scenes ns) ≡ c
 tabulated_self ns c h = same_charts ns _ _ (tabulated_length ns (at ns c)) h (λ s l. tabulated ns (at ns c) s l)
 
--- an entry written at a scene's place
-pub at_set_same : (ns : Shape) (c : Chart) (s : Scene) (o : Time) → SceneOf ns s → length c ≡ size ns → at ns (set c (rank ns s) o) s ≡ o
-at_set_same ns c s o l e = get_or-set_same c (rank ns s) o None (omega (arith, rank_less ns s l))
-
-pub at_set_other : (ns : Shape) (c : Chart) (s q : Scene) (o : Time) → SceneOf ns s → SceneOf ns q → (q ≡ s → ⊥) → at ns (set c (rank ns s) o) q ≡ at ns c q
-at_set_other ns c s q o l k ne = get_or-set_other c (rank ns s) (rank ns q) o None (λ e. ne (rank_one ns q s k l e))
-
 -- The settings of a scene
 
 pub scene_length : (ns : Shape) (s : Scene) → SceneOf ns s → length s ≡ length ns
@@ -140,13 +130,6 @@ setting_less [] s v l h = absurd (omega arith)
 setting_less (n ∷ ns) [] v l h = absurd l
 setting_less (n ∷ ns) (x ∷ xs) zero l h = l.0
 setting_less (n ∷ ns) (x ∷ xs) (suc v) l h = setting_less ns xs v l.1 (omega arith)
-
--- and that is all that a scene asks
-pub scene_from : (ns : Shape) (s : Scene) → length s ≡ length ns → ((v : ℕ) → v < length ns → get_or s v 0 < get_or ns v 0) → SceneOf ns s
-scene_from [] [] e h = tt
-scene_from [] (x ∷ xs) e h = absurd (omega arith)
-scene_from (n ∷ ns) [] e h = absurd (omega arith)
-scene_from (n ∷ ns) (x ∷ xs) e h = (h 0 (omega arith), scene_from ns xs (omega arith) (λ v less. h (suc v) (omega arith)))
 
 pub set_scene : (ns : Shape) (s : Scene) (v d : ℕ) → SceneOf ns s → v < length ns → d < get_or ns v 0 → SceneOf ns (set s v d)
 set_scene [] s v d l h k = absurd (omega arith)
@@ -175,9 +158,6 @@ tested_scene (n ∷ ns) (x ∷ xs) e h =
 pub tests_scene : (ns : Shape) (s : Scene) → not (eqb (length s) (length ns)) ≡ false → some_two leb ns s ≡ false → SceneOf ns s
 tests_scene ns s e h = tested_scene ns s (eqb-true (length s) (length ns) (not-false _ e)) h
 
-pub scene_counts : (ns : Shape) (s : Scene) → SceneOf ns s → not (eqb (length s) (length ns)) ≡ false
-scene_counts ns s l = not_from_true _ (eq-eqb (length s) (length ns) (scene_length ns s l))
-
 pub scene_within : (ns : Shape) (s : Scene) → SceneOf ns s → some_two leb ns s ≡ false
 scene_within [] s l = refl
 scene_within (n ∷ ns) [] l = absurd l
@@ -197,7 +177,3 @@ pub rank_more : (i : ℕ) (ns : Shape) (s : Scene) (r : ℕ) → i < length ns �
     r * size (drop i ns) + rank (drop i ns) (drop i s) ≡ (r * get_or ns i 0 + get_or s i 0) * size (drop (i + 1) ns) + rank (drop (i + 1) ns) (drop (i + 1) s)
 rank_more i ns s r h k =
     (λ j. r * size (drop_more ns i 0 h j) + rank (drop_more ns i 0 h j) (drop_more s i 0 k j)) ∙ omega arith
-
--- what is left of the shape has a scene
-pub size_left : (i : ℕ) (ns : Shape) (s : Scene) → SceneOf ns s → 1 ≤ size (drop i ns)
-size_left i ns s h = omega (arith, rank_less (drop i ns) (drop i s) (scene_drop i ns s h))

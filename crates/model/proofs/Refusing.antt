@@ -1,5 +1,5 @@
 -- What a call answers and leaves, by its checks. Assumes nothing.
-use Rattle.std.proofs.Common.{◌≡◌, ℕ, Bool, true, false, cond, List, [], ◌∷◌, ◌++◌, Ok, Err, Result, sym, refl, ap, ◌∙◌, arith}
+use Rattle.std.proofs.Common.{◌≡◌, ℕ, Bool, true, false, cond, List, [], ◌∷◌, ◌++◌, Ok, Err, Result, refl, ◌∙◌, arith}
 use Rattle.std.specs.List.{AllByRecursion}
 use Rattle.std.proofs.lemmas.Bool.{cond-true, cond-false}
 use Rattle.model.specs.Refusals.{Check, refuse, answer, left_by}
@@ -10,13 +10,6 @@ ok_not_err e = let z : ◌≡◌ {A = ℕ} 0 1 = cc in omega arith
 passed : {T : Type 0} (b : Bool) (n : ℕ) (r : Result T ℕ) (y : T) → cond b (Err n) r ≡ Ok y → (b ≡ false) × (r ≡ Ok y)
 passed true n r y e = absurd (ok_not_err e)
 passed false n r y e = (refl, e)
-
-stopped : {T U : Type 0} (b : Bool) (n k : ℕ) (r : Result T ℕ) (q : Result U ℕ) → (r ≡ Err k → q ≡ Err k) → cond b (Err n) r ≡ Err k → cond b (Err n) q ≡ Err k
-stopped true n k r q h e = ap Err (inside e)
-  where
-    inside : {X : Type 0} {a b : ℕ} → ◌≡◌ {A = Result X ℕ} (Err a) (Err b) → a ≡ b
-    inside g = cc
-stopped false n k r q h e = h e
 
 -- what is accepted passes each check
 pub accepted : {T : Type 0} (cs : List Check) (x y : T) → answer cs x ≡ Ok y → AllByRecursion (λ k. k.holds ≡ false) cs
@@ -40,12 +33,6 @@ pub refuses : {T : Type 0} (before : List Check) (n : ℕ) (b : Bool) (after : L
 refuses [] n b after x h e = cond-true b (Err n) (answer after x) e
 refuses (k ∷ before) n b after x h e =
     cond-false k.holds (Err k.number) (answer (before ++ (refuse n b ∷ after)) x) h.0 ∙ refuses before n b after x h.1 e
-
--- a refusal is not altered by what would have been checked after it
-pub refused_first : {T U : Type 0} (cs ds : List Check) (x : T) (y : U) (n : ℕ) → answer cs x ≡ Err n → answer (cs ++ ds) y ≡ Err n
-refused_first [] ds x y n e = absurd (ok_not_err (sym e))
-refused_first (k ∷ cs) ds x y n e =
-    stopped k.holds k.number n (answer cs x) (answer (cs ++ ds) y) (refused_first cs ds x y n) e
 
 -- checks that pass leave the answer to those after them
 pub accepted_first : {T U : Type 0} (cs ds : List Check) (x z : T) (y : U) → answer cs x ≡ Ok z → answer (cs ++ ds) y ≡ answer ds y

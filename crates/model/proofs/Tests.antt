@@ -1,24 +1,13 @@
--- Tests over lists: the step of a loop, and what a test that passed or failed says of the elements. Assumes nothing.
-use Rattle.std.proofs.Common.{◌≡◌, ℕ, zero, suc, ◌+◌, ◌<◌, ◌≤◌, Bool, true, false, cond, ◌||◌, ltb, List, [], ◌∷◌, length, get_or, drop, sym, refl, ap, ◌∙◌, inl, inr, arith}
-use Rattle.std.proofs.lemmas.List.{at_drop_more, drop_more}
-use Rattle.std.proofs.lemmas.Bool.{false≢true, or_parts, or_from, or_right}
-use Rattle.std.proofs.lemmas.Bool.Decides.{nat_tests}
-use Rattle.model.specs.Limits.{outside}
+-- Tests over lists: what a test that passed or failed says of the elements, and the step of a loop over two lists. Assumes nothing.
+use Rattle.std.proofs.Common.{◌≡◌, ℕ, zero, suc, ◌+◌, ◌<◌, Bool, true, false, cond, ◌||◌, List, [], ◌∷◌, length, get_or, drop, sym, refl, ap, ◌∙◌, inl, inr, arith}
+use Rattle.std.proofs.lemmas.List.{drop_more}
+use Rattle.std.proofs.lemmas.Bool.{false≢true, or_right}
 use Rattle.model.specs.Lists.{In, every, some, some_two}
 
 pub absurd : {A : Type 0} → ⊥ → A
 absurd e = elim e [ ]
 
 module _ {X : Type 0} where
-  -- what is left from i, by the test at i
-  pub every_more : (t : X → Bool) (xs : List X) (i : ℕ) (d : X) (b : Bool) → i < length xs → b ≡ t (get_or xs i d) → every t (drop i xs) ≡ cond b (every t (drop (i + 1) xs)) false
-  every_more t xs i d b lt e =
-      at_drop_more (every t) xs i d lt ∙ ap (λ (v : Bool). cond v (every t (drop (i + 1) xs)) false) (sym e)
-
-  pub some_more : (t : X → Bool) (xs : List X) (i : ℕ) (d : X) (b : Bool) → i < length xs → b ≡ t (get_or xs i d) → some t (drop i xs) ≡ (b || some t (drop (i + 1) xs))
-  some_more t xs i d b lt e =
-      at_drop_more (some t) xs i d lt ∙ ap (λ (v : Bool). v || some t (drop (i + 1) xs)) (sym e)
-
   -- an element at which the test passes
   pub some_at : (t : X → Bool) (xs : List X) (k : ℕ) (d : X) → k < length xs → t (get_or xs k d) ≡ true → some t xs ≡ true
   some_at t [] k d h e = absurd (omega arith)
@@ -32,12 +21,6 @@ module _ {X : Type 0} where
   pub some_found : (t : X → Bool) (xs : List X) → some t xs ≡ true → (k : ℕ) × (k < length xs) × ((d : X) → t (get_or xs k d) ≡ true)
   some_found t [] e = absurd (false≢true e)
   some_found t (x ∷ xs) e = found_by t x xs (t x) refl e (λ h. some_found t xs h)
-
-  -- of each element, where the test passes at none
-  pub some_none : (t : X → Bool) (xs : List X) → some t xs ≡ false → (x : X) → In x xs → t x ≡ false
-  some_none t [] e x h = elim h [ ]
-  some_none t (y ∷ ys) e x (inl h) = ap t h ∙ (or_parts (t y) (some t ys) e).0
-  some_none t (y ∷ ys) e x (inr h) = some_none t ys (or_parts (t y) (some t ys) e).1 x h
 
   every_in_by : (t : X → Bool) (b : Bool) (r : Bool) → cond b r false ≡ true → (b ≡ true) × (r ≡ true)
   every_in_by t true r e = (refl, e)
@@ -54,14 +37,3 @@ some_two_more {X} {Y} t xs ys i d f b lx ly e =
     ap (λ (l : List X). some_two t l (drop i ys)) (drop_more xs i d lx)
     ∙ ap (λ (l : List Y). some_two t (get_or xs i d ∷ drop (i + 1) xs) l) (drop_more ys i f ly)
     ∙ ap (λ (v : Bool). v || some_two t (drop (i + 1) xs) (drop (i + 1) ys)) (sym e)
-
--- a number and its limits
-
-pub outside_below : (least most n : ℕ) → n < least → outside least most n ≡ true
-outside_below least most n h = grind (arith, nat_tests)
-
-pub outside_above : (least most n : ℕ) → most < n → outside least most n ≡ true
-outside_above least most n h = or_right (ltb n least) (ltb most n) (grind (arith, nat_tests))
-
-pub outside_within : (least most n : ℕ) → least ≤ n → n ≤ most → outside least most n ≡ false
-outside_within least most n l h = or_from (ltb n least) (ltb most n) (grind (arith, nat_tests)) (grind (arith, nat_tests))
