@@ -1,6 +1,6 @@
 -- The first repeated entry, and the test whether there is one. Assumes nothing.
 use Rattle.std.proofs.Common.{◌≡◌, ℕ, zero, suc, ◌<◌, Bool, true, false, ◌||◌, List, [], ◌∷◌, length, Option, Some, None, is_some, MatchOption, sym, refl, arith}
-use Rattle.std.proofs.lemmas.Bool.{false≢true, or_right}
+use Rattle.std.proofs.lemmas.Bool.{false≢true, or_right, false_from_ne_true}
 use Rattle.model.specs.Lists.{some, repeats}
 use Rattle.model.proofs.Tests.{absurd, some_at, some_found}
 use Rattle.lists.specs.Repeats.{Alike, Apart, Repeated}
@@ -28,12 +28,8 @@ module _ {X : Type 0} (same : X → X → Bool) where
   repeats_found [] e = absurd (false≢true e)
   repeats_found (x ∷ xs) e = by x xs (some (same x) xs) refl e (λ h. repeats_found xs h)
 
-  decided : (b : Bool) → (b ≡ true → ⊥) → b ≡ false
-  decided true f = absurd (f refl)
-  decided false f = refl
-
   pub apart_none : (xs : List X) → Apart same xs (length xs) → repeats same xs ≡ false
-  apart_none xs apart = decided (repeats same xs) (λ e. let f = repeats_found xs e in apart f.1 f.3 f.0 f.2 f.4)
+  apart_none xs apart = false_from_ne_true (repeats same xs) (λ e. let f = repeats_found xs e in apart f.1 f.3 f.0 f.2 f.4)
 
   -- what the first place says of the test
   pub first_tested : (xs : List X) (r : Option ℕ) → MatchOption r (Apart same xs (length xs)) (λ i. Repeated same xs i) → is_some r ≡ repeats same xs

@@ -27,5 +27,5 @@ pub fn shape_off(settings: &[u8]) -> bool
     ensures { result ≡ is_shape_off settings.now }
 {
     !(1..=MOST_DEVICES).contains(&settings.len())
-        || some_outside(LEAST_SETTINGS as u8, MOST_SETTINGS as u8, settings)
+        || some_outside(LEAST_SETTINGS, MOST_SETTINGS as u8, settings)
 }

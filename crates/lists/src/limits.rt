@@ -2,7 +2,7 @@
 
 pub const MOST_DEVICES: usize = 12;
 
-pub const LEAST_SETTINGS: usize = 2;
+pub const LEAST_SETTINGS: u8 = 2;
 
 pub const MOST_SETTINGS: usize = 8;
 /// The bytes of a name are printable.

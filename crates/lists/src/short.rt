@@ -2,7 +2,7 @@ ghost use Rattle.std.specs.Prelude.{◌≡◌, ℕ, ◌≤◌, length};
 
 use std::alloc::AllocError;
 
-// The library's `ArrayVec` would not do: it is not `Copy`, and its clone may fail.
+// The library's `ArrayVec` would not do: it is not `Copy`.
 /// At most `N` values, in place: a list that can be copied and needs no memory of its own.
 pub struct Short<T, const N: usize> {
     pub(crate) items: [T; N],
@@ -11,7 +11,7 @@ pub struct Short<T, const N: usize> {
     ghost whole: { length items ≡ N },
 }
 
-// Both by hand: neither can be derived over ghost fields.
+// Both by hand: over ghost fields `Clone` is derived only where the type is always `Copy`, and this one is where its items are.
 impl<T: Copy, const N: usize> Copy for Short<T, N> {}
 
 impl<T: Copy, const N: usize> Clone for Short<T, N> {
