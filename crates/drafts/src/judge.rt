@@ -15,7 +15,7 @@ use lists::repeats::first_repeat;
 use moves::fault::RigFault;
 use moves::pair::Pair;
 
-// All that these two share is `any`.
+// Two functions: all that they share is `any`.
 fn some_device_high(pairs: &[Pair], settings: &[u8]) -> bool
     ensures { result ≡ some (device_high settings.now) (pairs_of pairs.now) }
 {
@@ -45,7 +45,7 @@ fn some_has<F: Fn(&[Pair]) -> bool>(charges: &[Charge], has: F) -> bool
     charges.iter().any(|charge| has(charge.tests.as_slice()))
 }
 
-/// Whether the conditions, the effects or the tests of some surcharge have it.
+/// Whether the conditions, the effects or the tests of some surcharge have a flaw.
 fn any_has<F: Fn(&[Pair]) -> bool>(
     conditions: &[Pair],
     effects: &[Pair],
@@ -70,14 +70,12 @@ pub(crate) fn judge_pairs(
 ) -> Result<(), RigFault>
     ensures { numbered result ≡ answer (pair_checks settings.now (pairs_of conditions.now ∷ pairs_of effects.now ∷ tested (charges_of charges.now))) tt }
 {
-    if any_has(conditions, effects, charges, |pairs| {
-        some_device_high(pairs, settings)
-    }) {
+    let is_device_high = |pairs: &[Pair]| some_device_high(pairs, settings);
+    if any_has(conditions, effects, charges, is_device_high) {
         return Err(RigFault::DeviceHigh);
     }
-    if any_has(conditions, effects, charges, |pairs| {
-        some_setting_high(pairs, settings)
-    }) {
+    let is_setting_high = |pairs: &[Pair]| some_setting_high(pairs, settings);
+    if any_has(conditions, effects, charges, is_setting_high) {
         return Err(RigFault::SettingHigh);
     }
     if any_has(conditions, effects, charges, is_repeating) {
