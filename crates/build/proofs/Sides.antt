@@ -4,6 +4,7 @@ use lib.ListN.{length-map}
 use Rattle.std.specs.List.{AllByRecursion, flat_map}
 use Rattle.std.proofs.lemmas.Bool.{ltb-false, le-ltb, both_ways, cases_lt}
 use Rattle.std.proofs.lemmas.List.{drop_more, get_or-take, get_or-map}
+use Rattle.std.proofs.ByRecursion.{All-weaker}
 use Rattle.nodes.specs.declared.edge.Edge.{Edge}
 use Rattle.nodes.specs.declared.node.Node.{Node}
 use Rattle.model.specs.Charts.{Time, Chart, plus, lesser, late}
@@ -13,7 +14,7 @@ use Rattle.model.specs.Parts.{least, pieces}
 use Rattle.model.specs.Scenes.{Shape, size}
 use Rattle.model.proofs.Testing.{none_take, none_drop}
 use Rattle.parts.specs.Shifts.{later, zeroed}
-use Rattle.parts.proofs.Pieces.{map_each, pieces_each, all_map, all_in, least_later}
+use Rattle.parts.proofs.Pieces.{map_each, pieces_each, all_in, least_later}
 use Rattle.store.specs.Stores.{none_edge, node_at, chart, body, Leads, Fine, Formed, Store}
 use Rattle.store.proofs.Canon.{led, kids_of, knows, knows_kids, kids_long}
 use Rattle.store.proofs.Greatest.{plus_zero}
@@ -109,7 +110,7 @@ module _ (nodes : List (Option Node)) (shape : Shape) (store : Store nodes shape
 -- An edge with a time and its node
 
 all_later : (f : Edge → Chart) (m : ℕ) (w : Time) (es : List Edge) → AllByRecursion (λ e. length (f e) ≡ m) es → AllByRecursion (λ e. length (later w (f e)) ≡ m) es
-all_later f m w es a = all_map (λ e. length (f e) ≡ m) (λ e. length (later w (f e)) ≡ m) es (λ e h. length-map (f e) (plus w) ∙ h) a
+all_later f m w es a = All-weaker (λ e. length (f e) ≡ m) (λ e. length (later w (f e)) ≡ m) (λ e h. length-map (f e) (plus w) ∙ h) es a
 
 module _ (nodes : List (Option Node)) (shape : Shape) (store : Store nodes shape) (l : ℕ) (lt : l < length shape) (a : Edge) (w : ℕ) (x : Node) (fine : Fine nodes (drop l shape) l a) (weight : a.weight ≡ Some w) (here : x ≡ node_at nodes a.child) where
   leads : Leads nodes (get_or shape l 0) l a

@@ -3,13 +3,14 @@ use Rattle.std.proofs.Common.{◌≡◌, ℕ, ◌+◌, ◌-◌, List, [], ◌∷
 use mathlib.Core.List.{map-map}
 use Rattle.std.specs.List.{AllByRecursion, flat_map}
 use Rattle.std.proofs.lemmas.Bool.{both_ways}
+use Rattle.std.proofs.ByRecursion.{All-weaker}
 use Rattle.nodes.specs.declared.edge.Edge.{Edge}
 use Rattle.nodes.specs.declared.node.Node.{Node}
 use Rattle.model.specs.Charts.{Time, Chart, plus, lesser}
 use Rattle.model.specs.Parts.{less}
 use Rattle.model.specs.Scenes.{Shape}
 use Rattle.parts.specs.Shifts.{later, zeroed}
-use Rattle.parts.proofs.Pieces.{all_map, map_each}
+use Rattle.parts.proofs.Pieces.{map_each}
 use Rattle.store.specs.Stores.{node_at, lowest, chart}
 use Rattle.build.specs.Builds.{lower_by}
 
@@ -69,7 +70,7 @@ back_here (Some w) (Some m) = ap {B = Time} Some (omega arith)
 
 pub back_all : (es : List Edge) → AllByRecursion (λ e. Back (lowest es) e.weight) es
 back_all [] = tt
-back_all (e ∷ es) = (back_here e.weight (lowest es), all_map (λ d. Back (lowest es) d.weight) (λ d. Back (lesser e.weight (lowest es)) d.weight) es (λ d h. back_lesser e.weight (lowest es) d.weight h) (back_all es))
+back_all (e ∷ es) = (back_here e.weight (lowest es), All-weaker (λ d. Back (lowest es) d.weight) (λ d. Back (lesser e.weight (lowest es)) d.weight) (λ d h. back_lesser e.weight (lowest es) d.weight h) es (back_all es))
 
 plus_assoc : (x y z : Time) → plus (plus x y) z ≡ plus x (plus y z)
 plus_assoc None y z = refl

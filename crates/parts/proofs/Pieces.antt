@@ -54,15 +54,6 @@ all_in P x [] a i = absurd i
 all_in P x (y ∷ ys) a (inl e) = subst P (sym e) a.0
 all_in P x (y ∷ ys) a (inr i) = all_in P x ys a.1 i
 
-pub all_map : {A : Type 0} (P Q : A → Type 0) (xs : List A) → ((x : A) → P x → Q x) → AllByRecursion P xs → AllByRecursion Q xs
-all_map P Q [] f a = tt
-all_map P Q (x ∷ xs) f a = (f x a.0, all_map P Q xs f a.1)
-
-pub in_map : {A B : Type 0} (f : A → B) (y : B) (xs : List A) → In y (map f xs) → (x : A) × In x xs × (y ≡ f x)
-in_map f y [] i = absurd i
-in_map f y (x ∷ xs) (inl e) = (x, inl refl, e)
-in_map f y (x ∷ xs) (inr i) = let r = in_map f y xs i in (r.0, inr r.1, r.2)
-
 -- ---- pieces
 
 pub pieces_each : {A : Type 0} (f : A → Chart) (m : ℕ) (xs : List A) → AllByRecursion (λ x. length (f x) ≡ m) xs → pieces (length xs) m (flat_map f xs) ≡ map f xs

@@ -4,6 +4,7 @@ use mathlib.Core.List.{map-append}
 use Rattle.std.specs.List.{AllByRecursion, flat_map}
 use Rattle.std.proofs.lemmas.List.Elements.{All-from_recursion, recursion_from_All, All-push}
 use Rattle.std.proofs.lemmas.List.{take_more, take_more_set, drop-drop, drop-set-lt, get_or-drop}
+use Rattle.std.proofs.ByRecursion.{All-weaker}
 use Rattle.table.specs.Tables.{Kept}
 use Rattle.nodes.specs.declared.edge.Edge.{Edge}
 use Rattle.nodes.specs.declared.node.Node.{Node}
@@ -13,7 +14,7 @@ use Rattle.model.specs.Parts.{parts, parts_of_all}
 use Rattle.model.specs.Scenes.{Shape}
 use Rattle.model.specs.Shelves.{charts}
 use Rattle.parts.proofs.Counts.{in_cast}
-use Rattle.parts.proofs.Pieces.{all_map, all_in, each_in}
+use Rattle.parts.proofs.Pieces.{all_in, each_in}
 use Rattle.store.specs.Stores.{chart, Fine, Store}
 use Rattle.store.specs.Fillings.{Stuck, Owned, name}
 use Rattle.store.proofs.Grows.{fine_kept, chart_kept, name_kept}
@@ -68,10 +69,10 @@ module _ (old new : List (Option Node)) (shape : Shape) (store : Store old shape
       ((fine_kept old new kept shape 0 e f.0, ap (some late) q ∙ f.1), ap {B = Option Chart} Some q)
 
   pub pegs_fine_kept : (pegs : List (Option Edge)) → AllByRecursion (peg_fine old shape) pegs → AllByRecursion (peg_fine new shape) pegs
-  pegs_fine_kept pegs a = all_map (peg_fine old shape) (peg_fine new shape) pegs (λ p f. (peg_kept p f).0) a
+  pegs_fine_kept pegs a = All-weaker (peg_fine old shape) (peg_fine new shape) (λ p f. (peg_kept p f).0) pegs a
 
   pub pegs_kept : (pegs : List (Option Edge)) → AllByRecursion (peg_fine old shape) pegs → pegs_of new shape pegs ≡ pegs_of old shape pegs
-  pegs_kept pegs a = map_all (peg_chart new shape) (peg_chart old shape) pegs (all_map (peg_fine old shape) (λ p. peg_chart new shape p ≡ peg_chart old shape p) pegs (λ p f. (peg_kept p f).1) a)
+  pegs_kept pegs a = map_all (peg_chart new shape) (peg_chart old shape) pegs (All-weaker (peg_fine old shape) (λ p. peg_chart new shape p ≡ peg_chart old shape p) (λ p f. (peg_kept p f).1) pegs a)
 
 -- The sweep
 

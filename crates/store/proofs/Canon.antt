@@ -4,6 +4,7 @@ use lib.ListN.{length-map}
 use Rattle.std.specs.List.{AllByRecursion, flat_map}
 use Rattle.std.proofs.lemmas.Bool.{both_ways, cases_lt}
 use Rattle.std.proofs.lemmas.List.{take_at, drop_at, drop-drop, get_or_past}
+use Rattle.std.proofs.ByRecursion.{All-weaker}
 use Rattle.table.specs.Tables.{slot}
 use Rattle.nodes.specs.declared.edge.Edge.{Edge}
 use Rattle.nodes.specs.declared.node.Node.{Node}
@@ -11,7 +12,7 @@ use Rattle.model.specs.Charts.{Time, Chart, plus, lesser, greatest}
 use Rattle.model.specs.Parts.{least, lowered}
 use Rattle.model.specs.Scenes.{Shape, size}
 use Rattle.parts.specs.Shifts.{zeroed}
-use Rattle.parts.proofs.Pieces.{all_map, length_each, least_later, least_append, lesser_none, lowered_back}
+use Rattle.parts.proofs.Pieces.{length_each, least_later, least_append, lesser_none, lowered_back}
 use Rattle.store.specs.Stores.{node_in, node_at, lowest, chart, below, highest, Leads, Fine, Formed, Proper, Store}
 use Rattle.store.specs.Fillings.{Canonical}
 use Rattle.store.proofs.Greatest.{greater_none, plus_zero, greatest_later, highest_joined}
@@ -56,16 +57,16 @@ pub record Known (nodes : List (Option Node)) (ns : Shape) (e : Edge) : Type 0 w
 -- of a node's, by what is known of its edges
 module _ (nodes : List (Option Node)) (n : ℕ) (ns : Shape) (es : List Edge) (known : AllByRecursion (Known nodes ns) es) where
   pub kids_long : AllByRecursion (λ e. length (chart nodes ns e) ≡ size ns) es
-  kids_long = all_map (Known nodes ns) (λ e. length (chart nodes ns e) ≡ size ns) es (λ e k. k.long) known
+  kids_long = All-weaker (Known nodes ns) (λ e. length (chart nodes ns e) ≡ size ns) (λ e k. k.long) es known
 
   pub body_long : length es ≡ n → length (flat_map (chart nodes ns) es) ≡ n * size ns
   body_long h = length_each (chart nodes ns) (size ns) es kids_long ∙ ap (λ m. m * size ns) h
 
   pub body_low : least (flat_map (chart nodes ns) es) ≡ lowest es
-  body_low = lowest_each (chart nodes ns) es (all_map (Known nodes ns) (λ e. least (chart nodes ns e) ≡ e.weight) es (λ e k. k.low) known)
+  body_low = lowest_each (chart nodes ns) es (All-weaker (Known nodes ns) (λ e. least (chart nodes ns e) ≡ e.weight) (λ e k. k.low) es known)
 
   pub body_high : greatest (flat_map (chart nodes ns) es) ≡ highest nodes ns es
-  body_high = highest_joined nodes ns (chart nodes ns) es (all_map (Known nodes ns) (λ e. greatest (chart nodes ns e) ≡ plus e.weight (below nodes ns e)) es (λ e k. k.high) known)
+  body_high = highest_joined nodes ns (chart nodes ns) es (All-weaker (Known nodes ns) (λ e. greatest (chart nodes ns e) ≡ plus e.weight (below nodes ns e)) (λ e k. k.high) es known)
 
 same_kids : (f : Edge → Chart) (m : ℕ) (P : Edge → Type 0) (es fs : List Edge) → length es ≡ length fs → AllByRecursion P es → AllByRecursion P fs → AllByRecursion (λ e. length (f e) ≡ m) es → AllByRecursion (λ e. length (f e) ≡ m) fs → flat_map f es ≡ flat_map f fs → ((a b : Edge) → P a → P b → f a ≡ f b → a ≡ b) → es ≡ fs
 same_kids f m P [] [] n p q a b h same = refl
@@ -93,7 +94,7 @@ module _ (nodes : List (Option Node)) (shape : Shape) (store : Store nodes shape
       let x = node_at nodes e.child in
       let es = take n x.edges in
       let w = led l n ns e at f in
-      let known = all_map (Fine nodes ns (l + 1)) (Known nodes ns) es (λ k g. knows ns (l + 1) k (tail_of shape l n ns at) g) (kids_of l n ns e at f) in
+      let known = All-weaker (Fine nodes ns (l + 1)) (Known nodes ns) (λ k g. knows ns (l + 1) k (tail_of shape l n ns at) g) es (kids_of l n ns e at f) in
       record {
         long = length-map (flat_map (chart nodes ns) es) (plus e.weight) ∙ body_long nodes n ns es known w.wide;
         low = least_later e.weight (flat_map (chart nodes ns) es) ∙ ap (plus e.weight) (body_low nodes n ns es known ∙ sym f.low) ∙ plus_zeroed e.weight;
@@ -101,7 +102,7 @@ module _ (nodes : List (Option Node)) (shape : Shape) (store : Store nodes shape
       }
 
   pub knows_kids : (l n : ℕ) (ns : Shape) (es : List Edge) → drop l shape ≡ n ∷ ns → AllByRecursion (Fine nodes ns (l + 1)) es → AllByRecursion (Known nodes ns) es
-  knows_kids l n ns es at a = all_map (Fine nodes ns (l + 1)) (Known nodes ns) es (λ k g. knows ns (l + 1) k (tail_of shape l n ns at) g) a
+  knows_kids l n ns es at a = All-weaker (Fine nodes ns (l + 1)) (Known nodes ns) (λ k g. knows ns (l + 1) k (tail_of shape l n ns at) g) es a
 
   -- the chart of an edge, lowered, is that of its node
   pub lowered_is : (l n : ℕ) (ns : Shape) (e : Edge) → drop l shape ≡ n ∷ ns → Leads nodes n l e → lowered (chart nodes (n ∷ ns) e) ≡ flat_map (chart nodes ns) (take n (node_at nodes e.child).edges)

@@ -1,13 +1,13 @@
 -- A store that only grows. Assumes nothing.
 use Rattle.std.proofs.Common.{◌≡◌, ℕ, ◌+◌, true, List, [], ◌∷◌, ◌++◌, take, drop, is_some, Some, Option, sym, refl, ap, ◌∙◌}
 use Rattle.std.specs.List.{AllByRecursion, flat_map}
+use Rattle.std.proofs.ByRecursion.{All-weaker}
 use Rattle.table.specs.Tables.{slot, Kept}
 use Rattle.nodes.specs.declared.edge.Edge.{Edge}
 use Rattle.nodes.specs.declared.node.Node.{Node}
 use Rattle.model.specs.Charts.{plus, greater}
 use Rattle.model.specs.Scenes.{Shape}
 use Rattle.parts.specs.Shifts.{later}
-use Rattle.parts.proofs.Pieces.{all_map}
 use Rattle.store.specs.Stores.{node_in, node_at, lowest, chart, body, below, highest, Fine, Formed, Proper, Store}
 use Rattle.store.specs.Fillings.{name_of, name}
 use Rattle.store.proofs.Canon.{tail_of, some_at, formed_at, kids_of}
@@ -50,7 +50,7 @@ module _ (old new : List (Option Node)) (kept : Kept old new) where
     rest = f.rest;
     low = f.low;
     high = f.high ∙ sym (highest_kept ns (x.level + 1) (take n x.edges) f.kids);
-    kids = all_map (Fine old ns (x.level + 1)) (Fine new ns (x.level + 1)) (take n x.edges) (λ e g. fine_kept ns (x.level + 1) e g) f.kids;
+    kids = All-weaker (Fine old ns (x.level + 1)) (Fine new ns (x.level + 1)) (λ e g. fine_kept ns (x.level + 1) e g) (take n x.edges) f.kids;
   }
 
   pub proper_kept : (ns : Shape) (x : Node) → Proper old ns x → Proper new ns x
@@ -63,10 +63,10 @@ module _ (old new : List (Option Node)) (kept : Kept old new) where
     chart_kept (n ∷ ns) l e at f =
         let es = take n (node_at old e.child).edges in
         ap (λ x. later e.weight (flat_map (chart new ns) (take n x.edges))) (node_kept e.child f.here)
-        ∙ ap (later e.weight) (each_all (chart new ns) (chart old ns) es (all_map (Fine old ns (l + 1)) (λ k. chart new ns k ≡ chart old ns k) es (λ k g. chart_kept ns (l + 1) k (tail_of shape l n ns at) g) (kids_of old shape store l n ns e at f)))
+        ∙ ap (later e.weight) (each_all (chart new ns) (chart old ns) es (All-weaker (Fine old ns (l + 1)) (λ k. chart new ns k ≡ chart old ns k) (λ k g. chart_kept ns (l + 1) k (tail_of shape l n ns at) g) es (kids_of old shape store l n ns e at f)))
 
     pub body_kept : (l n : ℕ) (ns : Shape) (x : Node) → drop l shape ≡ n ∷ ns → x.level ≡ l → Formed old n ns x → flat_map (chart new ns) (take n x.edges) ≡ flat_map (chart old ns) (take n x.edges)
-    body_kept l n ns x at deep f = each_all (chart new ns) (chart old ns) (take n x.edges) (all_map (Fine old ns (x.level + 1)) (λ k. chart new ns k ≡ chart old ns k) (take n x.edges) (λ k g. chart_kept ns (x.level + 1) k (tail_of shape x.level n ns (ap (λ j. drop j shape) deep ∙ at)) g) f.kids)
+    body_kept l n ns x at deep f = each_all (chart new ns) (chart old ns) (take n x.edges) (All-weaker (Fine old ns (x.level + 1)) (λ k. chart new ns k ≡ chart old ns k) (λ k g. chart_kept ns (x.level + 1) k (tail_of shape x.level n ns (ap (λ j. drop j shape) deep ∙ at)) g) (take n x.edges) f.kids)
 
     body_kept_at : (k : ℕ) (x : Node) (ns : Shape) → drop x.level shape ≡ ns → slot old k ≡ Some x → body new ns x ≡ body old ns x
     body_kept_at k x [] at here = refl
