@@ -12,9 +12,9 @@ use Rattle.model.proofs.Ranks.{rank_less, tests_scene}
 use Rattle.model.proofs.Soundness.{call_accepted, hung_legal}
 use Rattle.shelf.specs.Faults.{number}
 use Rattle.shelf.specs.declared.fault.ShelfFault.{ShelfFault}
-use Rattle.shelf.specs.declared.fault.ShelfFault.TheVariants.{PegHigh, PegBare}
 use Rattle.flat.specs.Rows.{row, flat}
 use Rattle.flat.specs.Means.{hanging}
+use Rattle.flat.specs.Numbers.{NoCharts}
 use Rattle.flat.specs.Hanging.{bare_at, row_on}
 
 pub low_peg : (p : ℕ) → p < 8 → high p ≡ false
@@ -106,22 +106,16 @@ module _ (ns : Shape) (cells : List Time) (hung : List Bool) where
           pub sum_legal : Sound m → some late (zipped plus (row cells (size ns) l) (row cells (size ns) r)) ≡ false
           sum_legal s = ap (some late) (sym (joined_rows plus)) ∙ hung_legal m s (sum t l r) sum_checks
 
-  -- why two pegs have no charts to be read
-  abbrev pub NoCharts : ℕ → ℕ → ShelfFault → Type 0
-  NoCharts l r f =
-      ((f ≡ PegHigh) × ((8 ≤ l) ⊎ (8 ≤ r)))
-      ⊎ ((f ≡ PegBare) × (l < 8) × (r < 8) × ((get_or hung l false ≡ false) ⊎ (get_or hung r false ≡ false)))
-
-  pub compares_refused : (l r : ℕ) (f : ShelfFault) → NoCharts l r f → compares m l r ≡ Err (number f)
+  pub compares_refused : (l r : ℕ) (f : ShelfFault) → NoCharts hung l r f → compares m l r ≡ Err (number f)
   compares_refused l r f (inl h) = rw h.0 (refuses [] 14 (high l || high r) (refuse 15 (bare m.pegs l || bare m.pegs r) ∷ []) _ tt (one_high l r h.1))
   compares_refused l r f (inr h) = rw h.0 (compares_bare l r h.1 h.2 h.3)
 
-  pub cheaper_refused : (t l r : ℕ) (f : ShelfFault) → t < 8 → NoCharts l r f → does m (cheaper t l r) ≡ Err (number f)
+  pub cheaper_refused : (t l r : ℕ) (f : ShelfFault) → t < 8 → NoCharts hung l r f → does m (cheaper t l r) ≡ Err (number f)
   cheaper_refused t l r f ht (inl h) =
       rw h.0 (refuses [] 14 (high t || (high l || high r)) (refuse 15 (bare m.pegs l || bare m.pegs r) ∷ no_room m (cheaper t l r) ∷ []) tt tt (or_right (high t) (high l || high r) (one_high l r h.1)))
   cheaper_refused t l r f ht (inr h) = rw h.0 (cheaper_bare l r h.1 h.2 t ht h.3)
 
-  pub sum_refused : (t l r : ℕ) (f : ShelfFault) → t < 8 → NoCharts l r f → does m (sum t l r) ≡ Err (number f)
+  pub sum_refused : (t l r : ℕ) (f : ShelfFault) → t < 8 → NoCharts hung l r f → does m (sum t l r) ≡ Err (number f)
   sum_refused t l r f ht (inl h) =
       rw h.0 (refuses [] 14 (high t || (high l || high r)) (refuse 15 (bare m.pegs l || bare m.pegs r) ∷ refuse 16 (late (plus (greatest (on m.pegs l)) (greatest (on m.pegs r)))) ∷ no_room m (sum t l r) ∷ []) tt tt (or_right (high t) (high l || high r) (one_high l r h.1)))
   sum_refused t l r f ht (inr h) = rw h.0 (sum_bare l r h.1 h.2 t ht h.3)

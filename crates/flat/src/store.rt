@@ -12,6 +12,7 @@ use shelf::shape::Shape;
 pub struct FlatShelf {
     shape: Shape,
     cells: Vec<Option<u64>>,
+    // Flags beside the rows: a peg's row stays where it is whether or not a chart hangs, so that hanging moves nothing.
     hung: [bool; PEGS],
     ghost room: { peg_count * size (shape_of shape) ≤ vec_len cells },
     ghost timely: { Timely (shape_of shape) cells.items hung },

@@ -1,6 +1,7 @@
-ghost use Rattle.std.specs.Prelude.{◌≡◌, ◌<◌, ◌≤◌, ◌⊎◌, true, false, length, MatchResult, slice_index_or};
+ghost use Rattle.std.specs.Prelude.{length, MatchResult};
 ghost use Rattle.model.specs.Limits.{peg_count};
 ghost use Rattle.shelf.specs.Shapes.{shape_of};
+ghost use Rattle.flat.specs.Numbers.{Names, High, Hangs, NoChart, NoCharts};
 
 use crate::store::FlatShelf;
 use lists::limits::PEGS;
@@ -8,39 +9,52 @@ use shelf::fault::ShelfFault;
 
 /// The peg of a number, where there is one.
 pub(crate) fn peg_of(number: u8) -> Result<usize, ShelfFault>
-    ensures { MatchResult result (λ p. (p ≡ number) × (p < peg_count)) (λ f. (f ≡ ShelfFault.PegHigh) × (peg_count ≤ number)) }
+    ensures { MatchResult result (Names peg_count number) (High ShelfFault.PegHigh peg_count number) }
 {
     let peg = usize::from(number);
-    (peg < PEGS).then_some(peg).ok_or(ShelfFault::PegHigh)
+    if peg < PEGS {
+        Ok(peg)
+    } else {
+        Err(ShelfFault::PegHigh)
+    }
 }
 
 impl FlatShelf {
     /// The device of a number, where there is one.
     pub(crate) fn device(&self, number: u8) -> Result<usize, ShelfFault>
-        ensures { MatchResult result (λ v. (v ≡ number) × (v < length (shape_of self.now.shape))) (λ f. (f ≡ ShelfFault.DeviceHigh) × (length (shape_of self.now.shape) ≤ number)) }
+        ensures { MatchResult result (Names (length (shape_of self.now.shape)) number) (High ShelfFault.DeviceHigh (length (shape_of self.now.shape)) number) }
     {
         let device = usize::from(number);
-        (device < self.shape.devices())
-            .then_some(device)
-            .ok_or(ShelfFault::DeviceHigh)
+        if device < self.shape.devices() {
+            Ok(device)
+        } else {
+            Err(ShelfFault::DeviceHigh)
+        }
     }
 
     /// The peg of a number, where a chart hangs on it.
     pub(crate) fn chart(&self, number: u8) -> Result<usize, ShelfFault>
-        ensures { MatchResult result (λ p. (p ≡ number) × (p < peg_count) × (slice_index_or self.now.hung p false ≡ true)) (λ f. ((f ≡ ShelfFault.PegHigh) × (peg_count ≤ number)) ⊎ ((f ≡ ShelfFault.PegBare) × (number < peg_count) × (slice_index_or self.now.hung number false ≡ false))) }
+        ensures { MatchResult result (Hangs self.now.hung number) (NoChart self.now.hung number) }
     {
         let peg = peg_of(number)?;
-        self.hung[peg].then_some(peg).ok_or(ShelfFault::PegBare)
+        if self.hung[peg] {
+            Ok(peg)
+        } else {
+            Err(ShelfFault::PegBare)
+        }
     }
 
     /// The pegs of two numbers, where charts hang on both.
+    // Not `chart` twice: both numbers are judged before either peg, as the order of refusals asks.
     pub(crate) fn charts(&self, left: u8, right: u8) -> Result<(usize, usize), ShelfFault>
-        ensures { MatchResult result (λ p. ((p.0 ≡ left) × (p.0 < peg_count) × (slice_index_or self.now.hung p.0 false ≡ true)) × ((p.1 ≡ right) × (p.1 < peg_count) × (slice_index_or self.now.hung p.1 false ≡ true))) (λ f. ((f ≡ ShelfFault.PegHigh) × ((peg_count ≤ left) ⊎ (peg_count ≤ right))) ⊎ ((f ≡ ShelfFault.PegBare) × (left < peg_count) × (right < peg_count) × ((slice_index_or self.now.hung left false ≡ false) ⊎ (slice_index_or self.now.hung right false ≡ false)))) }
+        ensures { MatchResult result (λ p. Hangs self.now.hung left p.0 × Hangs self.now.hung right p.1) (NoCharts self.now.hung left right) }
     {
         let left = peg_of(left)?;
         let right = peg_of(right)?;
-        (self.hung[left] && self.hung[right])
-            .then_some((left, right))
-            .ok_or(ShelfFault::PegBare)
+        if self.hung[left] && self.hung[right] {
+            Ok((left, right))
+        } else {
+            Err(ShelfFault::PegBare)
+        }
     }
 }

@@ -48,6 +48,7 @@ impl FlatShelf {
     pub fn open(settings: &[u8], cells: Vec<Option<u64>>) -> Result<FlatShelf, Unopened>
         ensures answer { Opened settings.now cells result }
     {
+        // No `map_err` and `?`: the closure would take the cells that an accepted opening keeps.
         match fitting(settings, cells.len()) {
             Ok(shape) => Ok(FlatShelf {
                 shape,
