@@ -91,6 +91,7 @@ impl<'a, S: Shelf> Walk<'a, S> {
         requires far { 0 < point.now.left }
         ensures strides { Strides (contents self.now.rig.now) (S.meaning self.now.shelf.now) point.now result }
     {
+        // A loop: of `find_map` in its place, whose closure asks that each slot is lawful, the proof was not found.
         for (number, slot) in self.rig.slots().iter().enumerate() {
             // A cast: a number of a slot is below 255.
             if let Some(end) = self.led(point, slot) {
