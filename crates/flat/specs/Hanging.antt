@@ -1,17 +1,22 @@
 -- What a write does to the meaning of a flat shelf. Assumes nothing.
-use Rattle.std.specs.Prelude.{◌≡◌, ℕ, ◌*◌, ◌<◌, ◌≤◌, Bool, true, false, cond, not, List, map, length, get_or, IfSome, Some, None, Option, ◌≢◌, slice_index_or, slice_set}
+use Rattle.std.specs.Prelude.{◌≡◌, ℕ, ◌+◌, ◌*◌, ◌<◌, ◌≤◌, Bool, true, false, cond, not, List, map, length, get_or, IfSome, Some, None, Option, ◌≢◌, slice_index, slice_index_or, slice_set, take, vec_items, vec_len}
 use Rattle.std.proofs.Common.{sym, ap, subst, ◌∙◌, ⊎_elim, arith}
 use Rattle.std.specs.List.{range_with_len}
+use Rattle.std.specs.Vec.{with_items}
 use Rattle.std.proofs.lemmas.List.FromFn.{length-map-range_with_len, get_or-map-range_with_len}
-use Rattle.std.proofs.lemmas.List.{same_lists, length-set, get_or-set_same, get_or-set_other, get_or_past}
+use Rattle.std.proofs.lemmas.List.{same_lists, length-set, get_or-set_same, get_or-set_other, get_or_past, with_items_is}
 use Rattle.std.proofs.lemmas.Bool.{cases_eq, cases_lt}
 use Rattle.model.specs.Lists.{some}
 use Rattle.model.specs.Scenes.{Shape, size, shape_off}
-use Rattle.model.specs.Charts.{Time, Chart, late}
+use Rattle.model.specs.Charts.{Time, Chart, late, zipped, dialled, put_chart}
 use Rattle.model.specs.Shelves.{Meaning, Pegs, Sound, chart_of, on, bare, with_pegs, flat_fill}
+use Rattle.model.proofs.Strides.{stride}
+use Rattle.shelf.specs.Shapes.{shape_of}
+use Rattle.cells.specs.Writes.{Written, Blocks}
+use Rattle.flat.specs.declared.store.FlatShelf.{FlatShelf}
 use Rattle.flat.specs.Rows.{row, peg, flat, Timely}
-use Rattle.flat.specs.Means.{hanging}
-use Rattle.flat.specs.Rowing.{RowHung, length_row}
+use Rattle.flat.specs.Means.{means, row_of, hanging}
+use Rattle.flat.specs.Rowing.{RowHung, length_row, joined_left, dial_left, put_left}
 
 -- a table in which one entry is set
 set_table : {X : Type 0} (f g : ℕ → X) (n p : ℕ) (v : X) → p < n → g p ≡ v → ((q : ℕ) → (q ≢ p) → g q ≡ f q) → map g (range_with_len 0 n) ≡ slice_set (map f (range_with_len 0 n)) p v
@@ -102,3 +107,43 @@ module _ (ns : Shape) (cells : List Time) (hung : List Bool) where
     whole = at_each (λ c. length c ≡ size ns) (λ p lt. peg_whole (slice_index_or hung p false) p (length_row cells (size ns) p lt room));
     timely = at_each (λ c. some late c ≡ false) (λ p lt. peg_timely (slice_index_or hung p false) (row cells (size ns) p) (old p));
   }
+
+pub sound_of : (s : FlatShelf) → Sound (means s)
+sound_of s = flat_sound (shape_of s.shape) (vec_items s.cells) s.hung s.shape.legal (omega (arith, s.room, s.cells.ok.0)) s.timely
+
+-- What a call leaves that has written the row of a peg
+
+-- a chart hangs on peg t once its row is written
+pub record Leaves (s : FlatShelf) (t : ℕ) (c : Chart) (new : List Time) : Type 0 where
+  pub hung : flat (shape_of s.shape) (with_items s.cells new).items (slice_set s.hung t true) ≡ hanging (means s) t c
+  pub timely : some late c ≡ false → Timely (shape_of s.shape) (with_items s.cells new).items (slice_set s.hung t true)
+
+module _ (s : FlatShelf) (n t : ℕ) (lent new : List Time) (en : n ≡ size (shape_of s.shape)) (same : lent ≡ vec_items s.cells) (low : t < 8) (eight : length s.hung ≡ 8) (len : length new ≡ vec_len s.cells) where
+  abbrev ns : Shape
+  ns = shape_of s.shape
+
+  room : 8 * size ns ≤ length (vec_items s.cells)
+  room = omega (arith, s.room, s.cells.ok.0)
+
+  long : length new ≡ length (vec_items s.cells)
+  long = omega (arith, len, s.cells.ok.0)
+
+  leaves : (c : Chart) → RowHung (size ns) t c (vec_items s.cells) new → Leaves s t c new
+  leaves c w = record {
+    hung =
+        ap (λ (xs : List Time). flat ns xs (slice_set s.hung t true)) (with_items_is s.cells new len)
+        ∙ flat_hung ns (vec_items s.cells) s.hung eight t low new c w;
+    timely = λ legal.
+        subst (λ (xs : List Time). Timely ns xs (slice_set s.hung t true)) (sym (with_items_is s.cells new len))
+        (timely_hung ns (vec_items s.cells) s.hung eight t low new c w s.timely legal);
+  }
+
+  pub joined_leaves : (op : Time → Time → Time) (l r : ℕ) → l < 8 → r < 8 → Written n (t * n) (λ k. op (slice_index_or lent (l * n + k) None) (slice_index_or lent (r * n + k) None)) lent new → Leaves s t (zipped op (row_of s l) (row_of s r)) new
+  joined_leaves op l r hl hr w = leaves _ (joined_left ns n t (vec_items s.cells) lent new en same low room long op l r hl hr w)
+
+  module _ (v m c w : ℕ) (device : v < length ns) (em : m ≡ size (take v ns)) (ec : c ≡ slice_index ns v) (ew : w ≡ stride ns v) where
+    pub dial_leaves : (es : List Time) → Blocks m c w (t * n) (λ _ d _. slice_index_or es d None) lent new → Leaves s t (dialled ns v es) new
+    dial_leaves es h = leaves _ (dial_left ns n t (vec_items s.cells) lent new en same low room long v m c w device em ec ew es h)
+
+    pub put_leaves : (a d : ℕ) → d < c → Blocks m c w (t * n) (λ b _ r. slice_index_or lent (a * n + (b * (c * w) + (d * w + r))) None) lent new → Leaves s t (put_chart ns v d (row_of s a)) new
+    put_leaves a d hd h = leaves _ (put_left ns n t (vec_items s.cells) lent new en same low room long v m c w device em ec ew a d hd h)

@@ -1,7 +1,5 @@
 ghost use Rattle.flat.specs.Means.{means};
-ghost use Rattle.std.proofs.Common.{arith};
-ghost use Rattle.shelf.specs.Shapes.{shape_of};
-ghost use Rattle.flat.specs.Hanging.{flat_sound};
+ghost use Rattle.flat.specs.Hanging.{sound_of};
 
 use crate::store::FlatShelf;
 use crate::store::numbers::peg_of;
@@ -15,7 +13,7 @@ use shelf::fault::ShelfFault;
 impl Shelf for FlatShelf {
     ghost meaning = { means };
 
-    ghost sound = { λ s. flat_sound (shape_of s.shape) s.cells.items s.hung s.shape.legal (omega (arith, s.room, s.cells.ok.0)) s.timely };
+    ghost sound = { sound_of };
 
     fn dial(
         &mut self,

@@ -1,11 +1,8 @@
-use Rattle.std.proofs.Common.{◌≡◌, ◌*◌, ◌≤◌, true, List, length, take, set, vec_items, vec_len, sym, ap, ◌∙◌, subst, arith, rules}
-use Rattle.std.proofs.lemmas.List.{with_items_is}
-use Rattle.model.specs.Charts.{Time}
+use Rattle.std.proofs.Common.{◌≡◌, ◌*◌, ◌≤◌, length, take, vec_len, arith, rules}
 use Rattle.model.proofs.Sizes.{size_some, setting_count, legal_parts, legal_take}
 use Rattle.shelf.specs.Shapes.{shape_of}
-use Rattle.flat.specs.Rows.{flat, Timely}
-use Rattle.flat.specs.Rowing.{within_row, row_size, dial_left}
-use Rattle.flat.specs.Hanging.{flat_hung, timely_hung}
+use Rattle.flat.specs.Rowing.{within_row, row_size}
+use Rattle.flat.specs.Hanging.{dial_leaves}
 use Rattle.flat.proofs.store.FlatShelf.hang_dial.Goals as goal
 
 pub dial_row-requires : goal.dial_row-requires
@@ -27,34 +24,21 @@ dial_row-requires c =
 pub invariant_of-self : goal.invariant_of-self
 invariant_of-self c =
     let s = c.args.self.now in
-    let ns = shape_of s.shape in
-    let t = c.args.target in
     let x = c.strides-strides.result in
     let e = c.strides-strides.ensures in
     let new = c.dial_row.new.cells in
-    let len : length new ≡ vec_len s.cells = search rules in
     let eight : length s.hung ≡ 8 = search rules in
-    let w = dial_left ns c.scenes-n.result t (vec_items s.cells) c.as_mut_slice.result.now new c.scenes-n.ensures.value c.as_mut_slice.ensures.value c.requires.low.0 (omega (arith, s.room, s.cells.ok.0)) (omega (arith, len, s.cells.ok.0)) c.args.device x.blocks x.count x.stride c.requires.low.1 e.blocks e.count e.stride c.args.entries.now c.dial_row.ensures.blocks in
-    record {
-      room = s.room;
-      timely =
-          subst (λ (xs : List Time). Timely ns xs (set s.hung t true)) (sym (with_items_is s.cells new len))
-          (timely_hung ns (vec_items s.cells) s.hung eight t c.requires.low.0 new _ w s.timely c.requires.legal);
-    }
+    let len : length new ≡ vec_len s.cells = search rules in
+    let left = dial_leaves s c.scenes-n.result c.args.target c.as_mut_slice.result.now new c.scenes-n.ensures.value c.as_mut_slice.ensures.value c.requires.low.0 eight len c.args.device x.blocks x.count x.stride c.requires.low.1 e.blocks e.count e.stride c.args.entries.now c.dial_row.ensures.blocks in
+    record { room = s.room; timely = left.timely c.requires.legal }
 
 pub returns : goal.returns
 returns c =
     let s = c.args.self.now in
-    let ns = shape_of s.shape in
-    let t = c.args.target in
     let x = c.strides-strides.result in
     let e = c.strides-strides.ensures in
     let new = c.dial_row.new.cells in
-    let len : length new ≡ vec_len s.cells = search rules in
     let eight : length s.hung ≡ 8 = search rules in
-    let w = dial_left ns c.scenes-n.result t (vec_items s.cells) c.as_mut_slice.result.now new c.scenes-n.ensures.value c.as_mut_slice.ensures.value c.requires.low.0 (omega (arith, s.room, s.cells.ok.0)) (omega (arith, len, s.cells.ok.0)) c.args.device x.blocks x.count x.stride c.requires.low.1 e.blocks e.count e.stride c.args.entries.now c.dial_row.ensures.blocks in
-    record {
-      hung =
-          ap (λ (xs : List Time). flat ns xs (set s.hung t true)) (with_items_is s.cells new len)
-          ∙ flat_hung ns (vec_items s.cells) s.hung eight t c.requires.low.0 new _ w;
-    }
+    let len : length new ≡ vec_len s.cells = search rules in
+    let left = dial_leaves s c.scenes-n.result c.args.target c.as_mut_slice.result.now new c.scenes-n.ensures.value c.as_mut_slice.ensures.value c.requires.low.0 eight len c.args.device x.blocks x.count x.stride c.requires.low.1 e.blocks e.count e.stride c.args.entries.now c.dial_row.ensures.blocks in
+    record { hung = left.hung }

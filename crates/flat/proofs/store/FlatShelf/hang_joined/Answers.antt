@@ -1,11 +1,9 @@
-use Rattle.std.proofs.Common.{◌≡◌, ◌*◌, ◌≤◌, true, List, length, set, vec_items, vec_len, sym, ap, ◌∙◌, subst, arith, rules}
-use Rattle.std.proofs.lemmas.List.{with_items_is}
+use Rattle.std.proofs.Common.{◌≡◌, ◌*◌, ◌≤◌, length, vec_len, ◌∙◌, arith, rules}
 use Rattle.model.specs.Lists.{some}
-use Rattle.model.specs.Charts.{Time, late, zipped}
-use Rattle.shelf.specs.Shapes.{shape_of}
-use Rattle.flat.specs.Rows.{row, flat, Timely}
-use Rattle.flat.specs.Rowing.{within_row, apart_rows, joined_legal, joined_left}
-use Rattle.flat.specs.Hanging.{flat_hung, timely_hung}
+use Rattle.model.specs.Charts.{late, zipped}
+use Rattle.flat.specs.Rows.{row}
+use Rattle.flat.specs.Rowing.{within_row, apart_rows, joined_legal}
+use Rattle.flat.specs.Hanging.{joined_leaves}
 use Rattle.flat.proofs.store.FlatShelf.hang_joined.Goals as goal
 
 pub join_rows-requires : goal.join_rows-requires
@@ -25,28 +23,17 @@ join_rows-requires g c =
 pub invariant_of-self : goal.invariant_of-self
 invariant_of-self g c =
     let s = c.args.self.now in
-    let ns = shape_of s.shape in
     let new = c.join_rows.new.cells in
-    let len : length new ≡ vec_len s.cells = search rules in
     let eight : length s.hung ≡ 8 = search rules in
-    let w = joined_left ns c.scenes-n.result c.args.target (vec_items s.cells) c.as_mut_slice-cells.result.now new c.scenes-n.ensures.value c.as_mut_slice-cells.ensures.value c.requires.low.0 (omega (arith, s.room, s.cells.ok.0)) (omega (arith, len, s.cells.ok.0)) g.J.Join.joins c.args.left c.args.right c.requires.low.1.0 c.requires.low.1.1 c.join_rows.ensures.row in
-    record {
-      room = s.room;
-      timely =
-          subst (λ (xs : List Time). Timely ns xs (set s.hung c.args.target true)) (sym (with_items_is s.cells new len))
-          (timely_hung ns (vec_items s.cells) s.hung eight c.args.target c.requires.low.0 new _ w s.timely c.requires.legal);
-    }
+    let len : length new ≡ vec_len s.cells = search rules in
+    let left = joined_leaves s c.scenes-n.result c.args.target c.as_mut_slice-cells.result.now new c.scenes-n.ensures.value c.as_mut_slice-cells.ensures.value c.requires.low.0 eight len g.J.Join.joins c.args.left c.args.right c.requires.low.1.0 c.requires.low.1.1 c.join_rows.ensures.row in
+    record { room = s.room; timely = left.timely c.requires.legal }
 
 pub returns : goal.returns
 returns g c =
     let s = c.args.self.now in
-    let ns = shape_of s.shape in
     let new = c.join_rows.new.cells in
-    let len : length new ≡ vec_len s.cells = search rules in
     let eight : length s.hung ≡ 8 = search rules in
-    let w = joined_left ns c.scenes-n.result c.args.target (vec_items s.cells) c.as_mut_slice-cells.result.now new c.scenes-n.ensures.value c.as_mut_slice-cells.ensures.value c.requires.low.0 (omega (arith, s.room, s.cells.ok.0)) (omega (arith, len, s.cells.ok.0)) g.J.Join.joins c.args.left c.args.right c.requires.low.1.0 c.requires.low.1.1 c.join_rows.ensures.row in
-    record {
-      hung =
-          ap (λ (xs : List Time). flat ns xs (set s.hung c.args.target true)) (with_items_is s.cells new len)
-          ∙ flat_hung ns (vec_items s.cells) s.hung eight c.args.target c.requires.low.0 new _ w;
-    }
+    let len : length new ≡ vec_len s.cells = search rules in
+    let left = joined_leaves s c.scenes-n.result c.args.target c.as_mut_slice-cells.result.now new c.scenes-n.ensures.value c.as_mut_slice-cells.ensures.value c.requires.low.0 eight len g.J.Join.joins c.args.left c.args.right c.requires.low.1.0 c.requires.low.1.1 c.join_rows.ensures.row in
+    record { hung = left.hung }

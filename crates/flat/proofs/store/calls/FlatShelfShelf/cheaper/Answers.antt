@@ -1,10 +1,10 @@
 use Rattle.std.proofs.Common.{vec_items, sym, arith}
 use Rattle.std.proofs.lemmas.Result.{err_from_is_err_and}
-use Rattle.model.specs.Shelves.{Sound, cheaper}
+use Rattle.model.specs.Shelves.{cheaper}
 use Rattle.model.proofs.Soundness.{call_refused}
 use Rattle.shelf.specs.Shapes.{shape_of}
 use Rattle.flat.specs.Means.{means}
-use Rattle.flat.specs.Hanging.{flat_sound}
+use Rattle.flat.specs.Hanging.{sound_of}
 use Rattle.flat.proofs.Calling.{cheaper_refused, cheaper_does, cheaper_done, cheaper_legal}
 use Rattle.flat.proofs.store.calls.FlatShelfShelf.cheaper.Goals as goal
 
@@ -21,8 +21,7 @@ hang_joined-requires-clause-legal c =
     let s = c.args.self.now in
     let l = c.in_ok-left.ensures.0 in
     let r = c.in_ok-left.ensures.1 in
-    let sound : Sound (means s) = flat_sound (shape_of s.shape) (vec_items s.cells) s.hung s.shape.legal (omega (arith, s.room, s.cells.ok.0)) s.timely in
-    cheaper_legal (shape_of s.shape) (vec_items s.cells) s.hung _ _ l.1 r.1 _ c.in_ok-target.ensures.1 l.2 r.2 sound
+    cheaper_legal (shape_of s.shape) (vec_items s.cells) s.hung _ _ l.1 r.1 _ c.in_ok-target.ensures.1 l.2 r.2 (sound_of s)
 
 pub returns : goal.returns
 returns c =

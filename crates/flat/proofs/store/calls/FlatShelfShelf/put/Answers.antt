@@ -1,8 +1,6 @@
 use Rattle.std.proofs.Common.{◌<◌, get_or, vec_items, sym, arith}
-use Rattle.model.specs.Shelves.{Sound}
 use Rattle.shelf.specs.Shapes.{shape_of}
-use Rattle.flat.specs.Means.{means}
-use Rattle.flat.specs.Hanging.{flat_sound}
+use Rattle.flat.specs.Hanging.{sound_of}
 use Rattle.flat.proofs.Calling.{put_does, put_done, put_legal}
 use Rattle.flat.proofs.store.calls.FlatShelfShelf.put.Goals as goal
 
@@ -14,8 +12,7 @@ hang_put-requires-clause-legal c =
     let t = c.in_ok-target.ensures in
     let a = c.in_ok-source.ensures in
     let low : c.from-setting.result < get_or ns c.in_ok-device.device 0 = omega (arith, c.if-setting-count.false, c.count.ensures.value) in
-    let sound : Sound (means s) = flat_sound ns (vec_items s.cells) s.hung s.shape.legal (omega (arith, s.room, s.cells.ok.0)) s.timely in
-    put_legal ns (vec_items s.cells) s.hung _ _ _ _ v.1 low t.1 a.1 a.2 sound
+    put_legal ns (vec_items s.cells) s.hung _ _ _ _ v.1 low t.1 a.1 a.2 (sound_of s)
 
 pub returns : goal.returns
 returns c =

@@ -1,10 +1,10 @@
 use Rattle.std.proofs.Common.{vec_items, sym, arith}
 use Rattle.std.proofs.lemmas.Result.{err_from_is_err_and}
-use Rattle.model.specs.Shelves.{Sound, sum}
+use Rattle.model.specs.Shelves.{sum}
 use Rattle.model.proofs.Soundness.{call_refused}
 use Rattle.shelf.specs.Shapes.{shape_of}
 use Rattle.flat.specs.Means.{means}
-use Rattle.flat.specs.Hanging.{flat_sound}
+use Rattle.flat.specs.Hanging.{sound_of}
 use Rattle.flat.proofs.Calling.{sum_refused, sum_late, sum_does, sum_done, sum_legal}
 use Rattle.flat.proofs.store.calls.FlatShelfShelf.sum.Goals as goal
 
@@ -30,8 +30,7 @@ hang_joined-requires-clause-legal c =
     let s = c.args.self.now in
     let l = c.in_ok-left.ensures.0 in
     let r = c.in_ok-left.ensures.1 in
-    let sound : Sound (means s) = flat_sound (shape_of s.shape) (vec_items s.cells) s.hung s.shape.legal (omega (arith, s.room, s.cells.ok.0)) s.timely in
-    sum_legal (shape_of s.shape) (vec_items s.cells) s.hung _ _ l.1 r.1 _ c.in_ok-target.ensures.1 l.2 r.2 c.sum_is_late.result c.sum_is_late.ensures.value c.if-sum_is_late.false sound
+    sum_legal (shape_of s.shape) (vec_items s.cells) s.hung _ _ l.1 r.1 _ c.in_ok-target.ensures.1 l.2 r.2 c.sum_is_late.result c.sum_is_late.ensures.value c.if-sum_is_late.false (sound_of s)
 
 pub returns : goal.returns
 returns c =
