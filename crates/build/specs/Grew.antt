@@ -4,7 +4,7 @@ use Rattle.nodes.specs.declared.edge.Edge.{Edge}
 use Rattle.nodes.specs.declared.node.Node.{Node}
 use Rattle.model.specs.Charts.{Chart}
 use Rattle.model.specs.Scenes.{Shape}
-use Rattle.shelf.specs.Shapes.{shape_of}
+use Rattle.lists.specs.Shorts.{listed}
 use Rattle.build.specs.Builds.{Grows, Partway}
 use Rattle.build.specs.declared.node_store.NodeStore.{NodeStore}
 
@@ -14,7 +14,7 @@ nodes_in s = vec_items s.nodes
 
 -- the shape of the charts
 abbrev pub shape_in : NodeStore → Shape
-shape_in s = shape_of s.shape
+shape_in s = listed s.settings
 
 -- the store is over the same shape, and has grown by parts of a chart only
 pub record Grew (old new : NodeStore) (l : ℕ) (c : Chart) : Type 0 where

@@ -1,16 +1,17 @@
-ghost use Rattle.shelf.specs.Shapes.{shape_of};
+ghost use Rattle.lists.specs.Shorts.{listed};
 ghost use Rattle.build.specs.Builds.{Ready};
 ghost use Rattle.build.specs.Once.{ready_prop};
 
+use lists::limits::MOST_DEVICES;
+use lists::short::Short;
 use nodes::node::Node;
-use shelf::shape::Shape;
 
 /// The nodes of diagrams over one shape, in a fixed number of slots: no node twice, each normalised.
 #[derive(Drop)]
 pub struct NodeStore {
-    shape: Shape,
+    settings: Short<u8, MOST_DEVICES>,
     nodes: Vec<Option<Node>>,
-    ghost ready: { Ready nodes.items (shape_of shape) } by { ready_prop nodes.items (shape_of shape) },
+    ghost ready: { Ready nodes.items (listed settings) } by { ready_prop nodes.items (listed settings) },
 }
 
 pub mod growing;

@@ -18,12 +18,8 @@ impl NodeStore {
         ensures grew { Grew self.old self.new level (together (nodes_in self.old) (shape_in self.old) level kids) }
         ensures built { Built (nodes_in self.new) (shape_in self.old) level (together (nodes_in self.old) (shape_in self.old) level kids) result }
     {
-        make(
-            self.nodes.as_mut_slice(),
-            self.shape.settings(),
-            level,
-            kids,
-        )
+        let settings = self.settings.as_slice();
+        make(self.nodes.as_mut_slice(), settings, level, kids)
     }
 
     /// The edge to the node that has the same edge for each setting of its device.
@@ -34,6 +30,7 @@ impl NodeStore {
         ensures grew { Grew self.old self.new level (spread_chart (shape_in self.old) level (chart (nodes_in self.old) (drop (level + 1) (shape_in self.old)) kid)) }
         ensures built { Built (nodes_in self.new) (shape_in self.old) level (spread_chart (shape_in self.old) level (chart (nodes_in self.old) (drop (level + 1) (shape_in self.old)) kid)) result }
     {
-        spread(self.nodes.as_mut_slice(), self.shape.settings(), level, kid)
+        let settings = self.settings.as_slice();
+        spread(self.nodes.as_mut_slice(), settings, level, kid)
     }
 }

@@ -25,7 +25,7 @@ impl NodeStore {
     pub fn devices(&self) -> usize
         ensures value { result ≡ length (shape_in self.now) }
     {
-        self.shape.devices()
+        self.settings.as_slice().len()
     }
 
     /// How many settings a device has.
@@ -34,6 +34,6 @@ impl NodeStore {
         ensures value { result ≡ slice_index (shape_in self.now) device }
         ensures few { result ≤ 8 }
     {
-        self.shape.count(device)
+        usize::from(self.settings.as_slice()[device])
     }
 }
