@@ -6,8 +6,9 @@ use lists::limits::MOST_SETTINGS;
 
 // A row, a block and a run are named by the cell at which they begin: a put reads one row of the cells and writes
 // another or the same. Chunks of a row, lent one after another, would read better, but once such a loan is over a
-// proof knows how many cells there are and not what they hold. Dials and puts share no loop: a step passed to one
-// would need a contract of its own as long as both loops.
+// proof knows how many cells there are and not what they hold. Dials and puts share no loop: what a put writes
+// in a block depends on its source as it stood before the loop, which may be the same row, so a step passed to one loop
+// would have to say for each block what it reads and what it leaves, at more length than the loops.
 
 /// How a row falls into blocks, each with a run of cells for each setting of one device.
 #[derive(Clone, Copy)]

@@ -8,6 +8,8 @@ use lists::limits::PEGS;
 use shelf::fault::ShelfFault;
 
 /// The peg of a number, where there is one.
+// A plain number: a type that carried the bound would be taken apart at each row and flag, and spare the hanging of a
+// chart only one of the facts that it asks for.
 pub(crate) fn peg_of(number: u8) -> Result<usize, ShelfFault>
     ensures { MatchResult result (Names peg_count number) (High ShelfFault.PegHigh peg_count number) }
 {
