@@ -27,6 +27,7 @@ pub(crate) fn make(
     let low = least(&kids);
     let edges = lower_all(kids, low);
     let most = highest(nodes, settings, level + 1, &edges);
+    // Casts: a level is below 12, and a slot's number below 65536.
     let node = Node {
         level: level as u8,
         most,

@@ -17,6 +17,7 @@ pub(crate) fn recall(memo: &[Option<Remembered>], key: &Key) -> Option<Edge>
         key: *key,
         result: key.left,
     };
+    // Two arms that answer none: of a pattern for both a proof would not know what either tells.
     match find(memo, &sought) {
         Found::At(i) => memo[i].map(|x| x.result),
         Found::Free(_) => None,

@@ -13,6 +13,7 @@ use table::entry::Entry;
 pub struct Node {
     pub level: u8,
     pub most: Option<u64>,
+    // An array: a device has eight settings at most, and the edges lie in place.
     pub edges: [Edge; 8],
 }
 

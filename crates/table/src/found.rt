@@ -1,5 +1,5 @@
 /// What a search answers: the slot of the entry with the key, the free slot where it belongs, or that no slot is free.
-// Each caller tells the three apart; an `Option<Result<usize, usize>>` would say less in more words.
+// Interning tells the three apart; an `Option<Result<usize, usize>>` would say less in more words.
 #[derive(Clone, Copy)]
 pub enum Found {
     At(usize),

@@ -13,7 +13,7 @@ pub fn taken<E: Copy>(slots: &[Option<E>], i: usize) -> Option<E>
 }
 
 /// Looks for the entry with the key of `e`, slot by slot up to a free one; none where others take all these slots.
-// By number, since the number of the slot is the answer.
+// By number: of a chain over the slots a proof gets only that its calls of `next` answered them, not in which slot.
 fn find_in<E: Entry>(slots: &[Option<E>], e: &E, from: usize, to: usize) -> Option<Found>
     requires within { to ≤ length slots.now }
     ensures { FindsIn E.alike slots.now e.now from to result }

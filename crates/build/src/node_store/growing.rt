@@ -9,6 +9,7 @@ use crate::make::{make, spread};
 use crate::node_store::NodeStore;
 use nodes::edge::Edge;
 
+// The work is on slices, whose contracts speak of lists; the methods lend the slices.
 impl NodeStore {
     /// The edge to the normalised node with these edges, which is interned; none where no slot is free for it.
     pub fn make(&mut self, level: usize, kids: [Edge; 8]) -> Option<Edge>
