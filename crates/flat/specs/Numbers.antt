@@ -14,7 +14,7 @@ High fault many number f = (f ≡ fault) × (many ≤ number)
 
 -- a chart hangs on p, the peg of the number
 abbrev pub Hangs : List Bool → ℕ → ℕ → Type 0
-Hangs hung number p = (p ≡ number) × (p < peg_count) × (slice_index_or hung p false ≡ true)
+Hangs hung number p = (p ≡ number) × (slice_index_or hung p false ≡ true)
 
 -- why a peg has no chart to be read
 abbrev pub NoChart : List Bool → ℕ → ShelfFault → Type 0

@@ -61,7 +61,7 @@ impl Shelf for FlatShelf {
 
     fn wipe(&mut self, peg: u8) -> Result<(), ShelfFault> {
         let peg = peg_of(peg)?;
-        self.hung[peg] = false;
+        self.hung[peg.number] = false;
         Ok(())
     }
 

@@ -1,4 +1,4 @@
-ghost use Rattle.std.specs.Prelude.{length, MatchResult};
+ghost use Rattle.std.specs.Prelude.{◌≡◌, ◌<◌, length, MatchResult};
 ghost use Rattle.model.specs.Limits.{peg_count};
 ghost use Rattle.shelf.specs.Shapes.{shape_of};
 ghost use Rattle.flat.specs.Numbers.{Names, High, Hangs, NoChart, NoCharts};
@@ -7,15 +7,20 @@ use crate::store::FlatShelf;
 use lists::limits::PEGS;
 use shelf::fault::ShelfFault;
 
+/// A number below that of the pegs.
+#[derive(Clone, Copy)]
+pub(crate) struct Peg {
+    pub number: usize,
+    ghost low: { number < peg_count },
+}
+
 /// The peg of a number, where there is one.
-// A plain number: a type that carried the bound would be taken apart at each row and flag, and spare the hanging of a
-// chart only one of the facts that it asks for.
-pub(crate) fn peg_of(number: u8) -> Result<usize, ShelfFault>
-    ensures { MatchResult result (Names peg_count number) (High ShelfFault.PegHigh peg_count number) }
+pub(crate) fn peg_of(number: u8) -> Result<Peg, ShelfFault>
+    ensures { MatchResult result (λ p. p.number ≡ number) (High ShelfFault.PegHigh peg_count number) }
 {
     let peg = usize::from(number);
     if peg < PEGS {
-        Ok(peg)
+        Ok(Peg { number: peg })
     } else {
         Err(ShelfFault::PegHigh)
     }
@@ -35,11 +40,11 @@ impl FlatShelf {
     }
 
     /// The peg of a number, where a chart hangs on it.
-    pub(crate) fn chart(&self, number: u8) -> Result<usize, ShelfFault>
-        ensures { MatchResult result (Hangs self.now.hung number) (NoChart self.now.hung number) }
+    pub(crate) fn chart(&self, number: u8) -> Result<Peg, ShelfFault>
+        ensures { MatchResult result (λ p. Hangs self.now.hung number p.number) (NoChart self.now.hung number) }
     {
         let peg = peg_of(number)?;
-        if self.hung[peg] {
+        if self.hung[peg.number] {
             Ok(peg)
         } else {
             Err(ShelfFault::PegBare)
@@ -48,12 +53,12 @@ impl FlatShelf {
 
     /// The pegs of two numbers, where charts hang on both.
     // Not `chart` twice: both numbers are judged before either peg, as the order of refusals asks.
-    pub(crate) fn charts(&self, left: u8, right: u8) -> Result<(usize, usize), ShelfFault>
-        ensures { MatchResult result (λ p. Hangs self.now.hung left p.0 × Hangs self.now.hung right p.1) (NoCharts self.now.hung left right) }
+    pub(crate) fn charts(&self, left: u8, right: u8) -> Result<(Peg, Peg), ShelfFault>
+        ensures { MatchResult result (λ p. Hangs self.now.hung left p.0.number × Hangs self.now.hung right p.1.number) (NoCharts self.now.hung left right) }
     {
         let left = peg_of(left)?;
         let right = peg_of(right)?;
-        if self.hung[left] && self.hung[right] {
+        if self.hung[left.number] && self.hung[right.number] {
             Ok((left, right))
         } else {
             Err(ShelfFault::PegBare)

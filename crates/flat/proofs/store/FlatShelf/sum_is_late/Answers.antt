@@ -9,7 +9,7 @@ sum_is_late-requires c =
     let s = c.args.self.now in
     record {
       timely = (
-        ap late (c.greatest.ensures.value ∙ ap greatest c.row.ensures.value) ∙ sym (late_tells (row_of s c.args.left)) ∙ c.requires.legal.0,
-        ap late (c.greatest-2.ensures.value ∙ ap greatest c.row-2.ensures.value) ∙ sym (late_tells (row_of s c.args.right)) ∙ c.requires.legal.1,
+        ap late (c.greatest.ensures.value ∙ ap greatest c.row.ensures.value) ∙ sym (late_tells (row_of s c.args.left.number)) ∙ c.requires.legal.0,
+        ap late (c.greatest-2.ensures.value ∙ ap greatest c.row-2.ensures.value) ∙ sym (late_tells (row_of s c.args.right.number)) ∙ c.requires.legal.1,
       );
     }

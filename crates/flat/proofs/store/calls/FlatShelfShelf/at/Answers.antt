@@ -18,10 +18,10 @@ bounds-row-place c =
     let s = c.args.self.now in
     let ns = shape_of s.shape in
     let room : 8 * size ns ≤ length (vec_items s.cells) = omega (arith, s.room, s.cells.ok.0) in
-    omega (arith, (placed ns c.args.scene.now c.in_ok-place.place c.in_ok-place.ensures.answer).1, ap length c.row.ensures.value, length_row (vec_items s.cells) (size ns) _ c.in_ok-peg.ensures.1 room)
+    omega (arith, (placed ns c.args.scene.now c.in_ok-place.place c.in_ok-place.ensures.answer).1, ap length c.row.ensures.value, length_row (vec_items s.cells) (size ns) _ c.in_ok-peg.peg.low room)
 
 pub returns : goal.returns
 returns c =
     let s = c.args.self.now in
     let p = c.in_ok-peg.ensures in
-    record { answer = rw (sym p.0) (reads_row (shape_of s.shape) (vec_items s.cells) s.hung _ c.args.scene.now c.in_ok-place.place c.in_ok-place.ensures.answer p.1 p.2 c.row.result.now c.row.ensures.value) }
+    record { answer = rw (sym p.0) (reads_row (shape_of s.shape) (vec_items s.cells) s.hung _ c.args.scene.now c.in_ok-place.place c.in_ok-place.ensures.answer c.in_ok-peg.peg.low p.1 c.row.result.now c.row.ensures.value) }

@@ -14,4 +14,4 @@ hang_dial-requires-clause-legal c =
     let es = c.args.entries.now in
     let count : get_or ns v 0 ≡ c.count.result = omega (arith, c.count.ensures.value) in
     let timely : some late (take (get_or ns v 0) es) ≡ false = ap (λ k. some late (take k es)) count ∙ sym c.some_late.ensures.value ∙ c.if-some_late.false in
-    dial_legal ns (vec_items s.cells) s.hung _ v es c.in_ok-device.ensures.1 c.in_ok-target.ensures.1 timely (sound_of s)
+    dial_legal ns (vec_items s.cells) s.hung _ v es c.in_ok-device.ensures.1 c.in_ok-target.target.low timely (sound_of s)

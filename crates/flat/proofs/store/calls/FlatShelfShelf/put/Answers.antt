@@ -12,7 +12,7 @@ hang_put-requires-clause-legal c =
     let t = c.in_ok-target.ensures in
     let a = c.in_ok-source.ensures in
     let low : c.from-setting.result < get_or ns c.in_ok-device.device 0 = omega (arith, c.if-setting-count.false, c.count.ensures.value) in
-    put_legal ns (vec_items s.cells) s.hung _ _ _ _ v.1 low t.1 a.1 a.2 (sound_of s)
+    put_legal ns (vec_items s.cells) s.hung _ _ _ _ v.1 low c.in_ok-target.target.low c.in_ok-source.source.low a.1 (sound_of s)
 
 pub returns : goal.returns
 returns c =
@@ -23,6 +23,6 @@ returns c =
     let a = c.in_ok-source.ensures in
     let low : c.from-setting.result < get_or ns c.in_ok-device.device 0 = omega (arith, c.if-setting-count.false, c.count.ensures.value) in
     record {
-      answer = rw (sym t.0, sym a.0, sym v.0, sym c.from-setting.ensures) (sym (put_does ns (vec_items s.cells) s.hung _ _ _ _ v.1 low t.1 a.1 a.2));
-      left = rw (sym t.0, sym a.0, sym v.0, sym c.from-setting.ensures) (put_done ns (vec_items s.cells) s.hung _ _ _ _ v.1 low t.1 a.1 a.2 _ c.hang_put.ensures.hung);
+      answer = rw (sym t, sym a.0, sym v.0, sym c.from-setting.ensures) (sym (put_does ns (vec_items s.cells) s.hung _ _ _ _ v.1 low c.in_ok-target.target.low c.in_ok-source.source.low a.1));
+      left = rw (sym t, sym a.0, sym v.0, sym c.from-setting.ensures) (put_done ns (vec_items s.cells) s.hung _ _ _ _ v.1 low c.in_ok-target.target.low c.in_ok-source.source.low a.1 _ c.hang_put.ensures.hung);
     }

@@ -16,6 +16,6 @@ returns c =
     let l = c.in_ok-left.ensures.0 in
     let r = c.in_ok-left.ensures.1 in
     record {
-      answer = rw (sym l.0, sym r.0) (compares_rows (shape_of s.shape) (vec_items s.cells) s.hung _ _ l.1 r.1 l.2 r.2
+      answer = rw (sym l.0, sym r.0) (compares_rows (shape_of s.shape) (vec_items s.cells) s.hung _ _ c.in_ok-left.left.low c.in_ok-left.right.low l.1 r.1
           c.row.result.now c.row-2.result.now c.same_rows.result c.same_rows.ensures.value c.row.ensures.value c.row-2.ensures.value);
     }
