@@ -2,7 +2,7 @@
 use Rattle.std.proofs.Common.{◌≡◌, ℕ, zero, suc, ◌+◌, ◌*◌, ◌<◌, ◌≤◌, Bool, true, false, ◌||◌, ◌⊎◌, List, [], ◌∷◌, length, get_or, take, drop, Some, None, Option, sym, refl, ap, ◌∙◌, subst, inl, inr, arith}
 use lib.ListN.{length-map}
 use Rattle.std.specs.List.{AllByRecursion, flat_map}
-use Rattle.std.proofs.lemmas.Bool.{ltb-false, le-ltb, both_ways, cases_lt}
+use Rattle.std.proofs.lemmas.Bool.{ltb-false, le-ltb, cases_lt, or_parts, or_from}
 use Rattle.std.proofs.lemmas.List.{drop_more, get_or-take, get_or-map}
 use Rattle.std.proofs.ByRecursion.{All-weaker}
 use Rattle.nodes.specs.declared.edge.Edge.{Edge}
@@ -24,14 +24,6 @@ use Rattle.build.proofs.Makes.{late_less}
 use Rattle.build.proofs.Steps.{get_or_in}
 
 -- What is late
-
-or_parts : (a b : Bool) → (a || b) ≡ false → (a ≡ false) × (b ≡ false)
-or_parts true b h = absurd (both_ways true h refl)
-or_parts false b h = (refl, h)
-
-or_both : (a b : Bool) → a ≡ false → b ≡ false → (a || b) ≡ false
-or_both true b p q = p
-or_both false b p q = q
 
 lesser_either : (x y : Time) → (lesser x y ≡ x) ⊎ (lesser x y ≡ y)
 lesser_either None y = inr refl
@@ -61,13 +53,13 @@ pub lower_timely : (v w : ℕ) (c : Chart) → v ≤ w → some late (later (Som
 lower_timely v w [] le h = refl
 lower_timely v w (x ∷ c) le h =
     let p = or_parts (late (plus (Some w) x)) (some late (later (Some w) c)) h in
-    or_both (late (plus (Some v) x)) (some late (later (Some v) c)) (late_lower v w x le p.0) (lower_timely v w c le p.1)
+    or_from (late (plus (Some v) x)) (some late (later (Some v) c)) (late_lower v w x le p.0) (lower_timely v w c le p.1)
 
 pub earlier_timely : (w : ℕ) (c : Chart) → some late (later (Some w) c) ≡ false → some late c ≡ false
 earlier_timely w [] h = refl
 earlier_timely w (x ∷ c) h =
     let p = or_parts (late (plus (Some w) x)) (some late (later (Some w) c)) h in
-    or_both (late x) (some late c) (late_less w x p.0) (earlier_timely w c p.1)
+    or_from (late x) (some late c) (late_less w x p.0) (earlier_timely w c p.1)
 
 pub weight_timely : (nodes : List (Option Node)) (shape : Shape) → Store nodes shape → (l : ℕ) (e : Edge) → Fine nodes (drop l shape) l e → some late (chart nodes (drop l shape) e) ≡ false → late e.weight ≡ false
 weight_timely nodes shape store l e f h = ap late (sym (knows nodes shape store (drop l shape) l e refl f).low) ∙ least_timely (chart nodes (drop l shape) e) h

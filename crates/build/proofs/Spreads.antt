@@ -38,10 +38,6 @@ made_long shape l f long =
     let m = size (drop (l + 1) shape) in
     length_each f m (range_with_len 0 n) (all_any (λ i. length (f i) ≡ m) (range_with_len 0 n) long) ∙ ap (λ j. j * m) (counting_length 0 n)
 
-or_false : (a b : Bool) → a ≡ false → b ≡ false → (a || b) ≡ false
-or_false true b p q = p
-or_false false b p q = q
-
 some_append : (t : Time → Bool) (c d : Chart) → some t c ≡ false → some t d ≡ false → some t (c ++ d) ≡ false
 some_append t [] d p q = q
 some_append t (x ∷ c) d p q = go (t x) p (λ h. some_append t c d h q)

@@ -39,9 +39,6 @@ piece_parts shape l c i p lt il h =
 pub grows_none : (nodes : List (Option Node)) (shape : Shape) (l : ℕ) (c : Chart) → Ready nodes shape → Grows nodes nodes shape l c
 grows_none nodes shape l c r = record { table = r.table; store = r.store; kept = λ k x p. p; grown = λ k x p. inl p; same = refl }
 
-pub ready_after : (old new : List (Option Node)) (shape : Shape) (l : ℕ) (c : Chart) → Ready old shape → Grows old new shape l c → Ready new shape
-ready_after old new shape l c r g = record { table = g.table; store = g.store; small = subst (λ n. n ≤ 65536) (sym g.same) r.small; some = r.some; few = r.few; short = r.short }
-
 -- charts with the same parts
 pub grows_alike : (old new : List (Option Node)) (shape : Shape) (l : ℕ) (c d : Chart) → parts (drop l shape) l c ≡ parts (drop l shape) l d → Grows old new shape l c → Grows old new shape l d
 grows_alike old new shape l c d same g = record {

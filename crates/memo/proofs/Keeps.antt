@@ -71,9 +71,6 @@ recalled_right nodes shape memo key e k r =
     let q = sym r.is in
     coe 0 1 (i. Right nodes shape (p i) (q i)) (k.all r.place r.entry r.here)
 
-pub recalled_stands : (nodes : List (Option Node)) (shape : Shape) (memo : List (Option Remembered)) (key : Key) (e : Edge) → Knows nodes shape memo → Recalled memo key e → Stands nodes shape key.level (result_chart key.operation (drop key.level shape) key.level (chart nodes (drop key.level shape) key.left) (chart nodes (drop key.level shape) key.right)) e
-recalled_stands nodes shape memo key e k r = (recalled_right nodes shape memo key e k r).stands
-
 -- what is known of a store is known once it has grown
 pub knows_grew : (old new : NodeStore) (l : ℕ) (c : Chart) (memo : List (Option Remembered)) → Knows (nodes_in old) (shape_in old) memo → Grew old new l c → Knows (nodes_in new) (shape_in new) memo
 knows_grew old new l c memo k g = subst (λ s. Knows (nodes_in new) s memo) (sym g.same) (knows_kept (nodes_in old) (nodes_in new) g.grows.kept (shape_in old) old.ready.store memo k)
