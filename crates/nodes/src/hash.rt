@@ -3,12 +3,15 @@ ghost use Rattle.nodes.specs.Hashes.{mixed, code as the_code};
 
 use crate::edge::Edge;
 
+/// Each step of a number that depends on edges is kept below this.
+const MODULUS: u64 = 4_294_967_296;
+
 /// A number that depends on an edge's weight and child.
 fn code(e: Edge) -> u64
     ensures value { result ≡ the_code e }
     ensures bound { result < 2 ^ 33 }
 {
-    u64::from(e.child) + e.weight.map_or(0, |w| 1 + w % 4294967296)
+    u64::from(e.child) + e.weight.map_or(0, |w| 1 + w % MODULUS)
 }
 
 /// A number that depends on `start` and each of the edges.
@@ -18,7 +21,7 @@ pub fn mix(start: u64, edges: &[Edge]) -> u64
 {
     let mut h = start;
     for e in edges {
-        h = (h * 16777619 + code(*e)) % 4294967296;
+        h = (h * 16777619 + code(*e)) % MODULUS;
     }
     h
 }
