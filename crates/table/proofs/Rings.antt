@@ -127,12 +127,6 @@ module _ {E : Type 0} (alike : E → E → Type 0) (initial : E → ℕ → ℕ)
         ]
       ]
 
-pub empty_table : {E : Type 0} (alike : E → E → Type 0) (initial : E → ℕ → ℕ) (slots : List (Option E)) → Empty slots → Table alike initial slots
-empty_table alike initial slots empty = record {
-  probed = λ k x kl here. absurd (empty_or_not (slot slots k) x (empty k) here);
-  apart = λ i j x y il jl here. absurd (empty_or_not (slot slots i) x (empty i) here);
-}
-
 module _ {E : Type 0} (old new : List (Option E)) (i : ℕ) (e : E) (il : i < length old) (none : slot old i ≡ None) (put : new ≡ set old i (Some e)) where
   pub put_here : slot new i ≡ Some e
   put_here = ap (λ (l : List (Option E)). slot l i) put ∙ get_or-set_same old i (Some e) None il
