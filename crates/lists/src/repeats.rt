@@ -25,7 +25,7 @@ pub fn first_repeat<T: Keyed>(items: &[T]) -> Option<usize>
     ensures first { MatchOption result (Apart T.Keyed.same items.now (length items.now)) (λ i. Repeated T.Keyed.same items.now i) }
     ensures test { is_some result ≡ some_repeat T.Keyed.same items.now }
 {
-    // Not `find` over the places: no proof says what its closure answers there, since `stood` gives no equation.
+    // Not `find` over the places: tried, and of a place where `stood` is false no search finds that no earlier item has its key.
     for i in 0..items.len() {
         if stood(items, i) {
             return Some(i);
