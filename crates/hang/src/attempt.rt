@@ -50,6 +50,7 @@ fn put_peg(
 }
 
 /// The edge of the chart to be hung, or none where no slot is free for one of its parts.
+// By a match: what is to be hung is tried twice, so it is a value.
 fn attempt(task: Task, diagrams: &mut Diagrams, pegs: &[Option<Edge>]) -> Option<Edge>
     requires held { Held diagrams.old.store pegs.now }
     requires allowed { Allowed (shape_in diagrams.old.store) (pegs_in diagrams.old.store pegs.now) task }

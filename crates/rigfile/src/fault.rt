@@ -12,6 +12,7 @@ pub struct WriteFault {
 
 impl WriteFault {
     /// The number under which the refusal is known.
+    // A literal: a struct of one refusal has no discriminant.
     pub fn number(&self) -> u8
         ensures { result ≡ 19 }
     {

@@ -14,6 +14,7 @@ use shelf::calls::Shelf;
 use shelf::fault::ShelfFault;
 
 /// Makes the call.
+// By a match: a refusal carries the call, so it is a value before it is made.
 fn made<S: Shelf>(shelf: &mut S, call: Hanging) -> Result<(), ShelfFault>
     ensures answer { numbered result ≡ does (S.meaning shelf.old) (call_of call) }
     ensures left { S.meaning shelf.new ≡ done (S.meaning shelf.old) (call_of call) }
