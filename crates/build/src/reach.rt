@@ -35,7 +35,7 @@ fn below(nodes: &[Option<Node>], settings: &[u8], level: usize, e: Edge) -> Opti
 }
 
 /// The greatest time of an edge.
-fn reach(nodes: &[Option<Node>], settings: &[u8], level: usize, e: Edge) -> Option<u64>
+pub fn reach(nodes: &[Option<Node>], settings: &[u8], level: usize, e: Edge) -> Option<u64>
     requires depth { level ≤ length settings.now }
     requires timely { late (plus e.weight (stores.below nodes.now (drop level settings.now) e)) ≡ false }
     ensures { result ≡ plus e.weight (stores.below nodes.now (drop level settings.now) e) }

@@ -1,2 +1,3 @@
 pub mod Placing
 pub mod Products
+pub mod Pairs

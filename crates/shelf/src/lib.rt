@@ -4,5 +4,6 @@
 pub mod calls;
 mod counts;
 pub mod fault;
+pub mod numbers;
 pub mod shape;
 pub mod sides;

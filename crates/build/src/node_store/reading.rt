@@ -1,9 +1,13 @@
-ghost use Rattle.std.specs.Prelude.{◌≡◌, ◌<◌, ◌≤◌, length, slice_index};
+ghost use Rattle.std.specs.Prelude.{◌≡◌, ◌<◌, ◌≤◌, false, length, slice_index};
+ghost use Rattle.model.specs.Charts.{late, greatest as greatest_of};
+ghost use Rattle.model.specs.Lists.{some};
 ghost use Rattle.store.specs.Stores as stores;
+ghost use Rattle.store.specs.Stores.{chart, Fine};
 ghost use Rattle.build.specs.Grew.{nodes_in, shape_in};
 
 use crate::node_store::NodeStore;
-use crate::reach::node_at;
+use crate::reach::{node_at, reach};
+use nodes::edge::Edge;
 use nodes::node::Node;
 
 impl NodeStore {
@@ -21,6 +25,13 @@ impl NodeStore {
         self.nodes.len()
     }
 
+    /// The number of settings of each device.
+    pub fn shape(&self) -> &[u8]
+        ensures value { result.now ≡ shape_in self.now }
+    {
+        self.settings.as_slice()
+    }
+
     /// How many devices the shape has.
     pub fn devices(&self) -> usize
         ensures value { result ≡ length (shape_in self.now) }
@@ -35,5 +46,14 @@ impl NodeStore {
         ensures few { result ≤ 8 }
     {
         usize::from(self.settings.as_slice()[device])
+    }
+
+    /// The greatest time of an edge's chart, if it has one.
+    pub fn greatest(&self, e: Edge) -> Option<u64>
+        requires fine { Fine (nodes_in self.now) (shape_in self.now) 0 e }
+        requires timely { some late (chart (nodes_in self.now) (shape_in self.now) e) ≡ false }
+        ensures value { result ≡ greatest_of (chart (nodes_in self.now) (shape_in self.now) e) }
+    {
+        reach(self.nodes.as_slice(), self.shape(), 0, e)
     }
 }
