@@ -48,7 +48,7 @@ written_as n base f g old new h w = record { inside = λ k l. w.inside k l ∙ h
 pub runs_as : (n w base : ℕ) (f g : ℕ → ℕ → Time) (old new : List Time) → ((d r : ℕ) → r < w → f d r ≡ g d r) → Runs n w base f old new → Runs n w base g old new
 runs_as n w base f g old new h x = record { inside = λ d r l k. x.inside d r l k ∙ h d r k; outside = x.outside }
 
--- a part of the cells that is written in runs, of which there are so many
+-- n runs that are written in a part of the cells, which is as long as they are
 pub runs_part : (n m w base k : ℕ) (f g : ℕ → Time) (old before part : List Time) → m ≡ n → base + n * w ≤ length old → k ≡ n * w → length part ≡ n * w
     → ((d : ℕ) → d < n → f d ≡ g d) → Runs m w 0 (λ d _. f d) before part → Runs n w base (λ d _. g d) old (put_mid base k old part)
 runs_part n m w base k f g old before part count l em e same runs =
@@ -65,7 +65,7 @@ pub blocks_spread : (m n w base : ℕ) (f : ℕ → ℕ → Time) (old mid new :
     → Runs (m - 1) (n * w) (base + n * w) (λ _ r. get_or mid (base + r) None) mid new → Blocks m n w base (λ _ d r. f d r) old new
 blocks_spread m n w base f old mid new some first spread =
     record {
-      inside = λ b d r h k l. block_in b d r h k l;
+      inside = block_in;
       outside = λ k side. spread.outside k (⊎_elim (λ lt. inl (omega arith)) (λ ge. inr (omega (arith, whole))) side)
           ∙ first.outside k (⊎_elim inl (λ after. inr (omega (arith, rows_up 1 m (n * w) some))) side);
     }

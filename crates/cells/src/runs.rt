@@ -1,6 +1,6 @@
 ghost use Rattle.std.specs.Prelude.{◌+◌, ◌*◌, ◌<◌, ◌≤◌, length, None, slice_index_or};
 ghost use Rattle.model.specs.Limits.{most_settings};
-ghost use Rattle.cells.specs.Writes.{Apart, Written, Runs, Blocks, Source};
+ghost use Rattle.cells.specs.Writes.{Apart, Runs, Blocks, Source};
 
 use lists::limits::MOST_SETTINGS;
 
