@@ -19,11 +19,9 @@ pub fn mix(start: u64, edges: &[Edge]) -> u64
     requires { start < 4294967296 }
     ensures { result ≡ mixed start edges.now }
 {
-    let mut h = start;
-    for e in edges {
-        h = (h * 16777619 + code(*e)) % MODULUS;
-    }
-    h
+    edges
+        .iter()
+        .fold(start, |h, e| (h * 16777619 + code(*e)) % MODULUS)
 }
 
 /// The slot, among so many, at which a search starts: it depends on the level and on each of the edges.
