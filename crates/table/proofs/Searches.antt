@@ -21,6 +21,7 @@ and_read P None n e h = absurd h
 and_read P (Some x) n e h = subst P (ap (λ (o : Option ℕ). unwrap_or o n) e) h
 
 module _ {F B : Type 0} (g : Mut F (ℕ × Unit {0}) (Option B)) (s : Range ℕ) (f : F) (P : ℕ → Option B → Type 0) (met : (x : ℕ) (o : Option B) (q : F) → Called g f (x, tt) o q → (q ≡ f) × P x o) where
+  -- no call changes the closure
   keeps : CallKeepsClosure g f
   keeps a r q k = (met a.0 r q k).0
 
@@ -28,6 +29,7 @@ module _ {F B : Type 0} (g : Mut F (ℕ × Unit {0}) (Option B)) (s : Range ℕ)
   read : (p : Run nat_range_steps) → p.from ≡ s → (k : ℕ) → s.start ≤ k → k < s.start + p.len → option_map (λ y. y) (p.at (k - s.start)) ≡ Some k
   read p e k a b = (range_runs p p.seen).3 (k - s.start) (omega (arith, a, b)) ∙ ap Some (omega (arith, ap (λ (t : Range ℕ). t.start) e, a))
 
+  -- a whole run in which each answer is none, and the run up to the first answer that is not
   none_given : (p : Run nat_range_steps) → p.from ≡ s → p.whole ≡ true → AllItemsGive p g f None → (k : ℕ) → s.start ≤ k → k < s.end → P k None
   none_given p e w all k a b =
       let long = (range_runs p p.seen).1 w in
