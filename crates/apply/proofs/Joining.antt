@@ -120,10 +120,11 @@ pub record Next (op : Op) (old mid : NodeStore) (l : ℕ) (x y : TimedEdge) (i :
   pub left : d ≡ raised (Some x.weight) (get_or (node_at (nodes_in old) x.child).edges i none_edge)
   pub right : e ≡ raised (Some y.weight) (get_or (node_at (nodes_in old) y.child).edges i none_edge)
 
--- the two nodes' edges for a setting, gone through in step, n of them
+-- the first n edges of the node that an edge leads to
 abbrev pub edges_of : NodeStore → TimedEdge → ℕ → List Edge
 edges_of old x n = take n (node_at (nodes_in old) x.child).edges
 
+-- those of both, gone through in step
 module _ {op : Op} {old : NodeStore} {l : ℕ} {x y : TimedEdge} (pair : Pair op old l x y) {n : ℕ} {s : Enumerate (Zip (Iter Edge) (Iter Edge))} (ahead : Ahead (edges_of old x n) (edges_of old y n) s) (count : n ≡ get_or (shape_in old) l 0) where
   wide : length (edges_of old x n) ≡ n
   wide = subst (λ m. length (edges_of old x m) ≡ m) (sym count) (side_formed (nodes_in old) (shape_in old) old.ready.store l pair.lt (edge_of x) x.weight (node_at (nodes_in old) x.child) pair.able.left refl refl).wide
