@@ -1,20 +1,18 @@
 -- The answers of joining that make no node. Assumes nothing.
-use Rattle.std.proofs.Common.{◌≡◌, ℕ, min, List, [], ◌∷◌, length, take, drop, Some, None, Option, sym, refl, ap, ◌∙◌, subst, arith}
-use lib.ListN.{length-map}
-use Rattle.std.specs.List.{flat_map}
+use Rattle.std.proofs.Common.{◌≡◌, ℕ, min, List, [], ◌∷◌, length, drop, Some, None, Option, sym, refl, ap, ◌∙◌, subst, arith}
 use Rattle.std.proofs.lemmas.List.{drop_all}
 use Rattle.nodes.specs.declared.edge.Edge.{Edge}
 use Rattle.nodes.specs.declared.node.Node.{Node}
 use Rattle.nodes.specs.declared.remembered.Op.{Op}
 use Rattle.nodes.specs.declared.remembered.Op.TheVariants.{Cheaper, Sum}
-use Rattle.model.specs.Charts.{Time, Chart, lesser, plus, zipped}
+use Rattle.model.specs.Charts.{Time, lesser, plus, zipped}
 use Rattle.model.specs.Scenes.{Shape}
 use Rattle.model.proofs.Charting.{zipped_comm}
 use Rattle.parts.specs.Shifts.{later}
-use Rattle.store.specs.Stores.{node_at, chart, Fine, Store}
+use Rattle.store.specs.Stores.{chart, Fine, Store}
 use Rattle.store.proofs.Canon.{knows}
 use Rattle.build.specs.Builds.{Stands}
-use Rattle.build.proofs.Sides.{moved_fine, from_zero}
+use Rattle.build.proofs.Sides.{raised_chart, moved_fine, from_zero}
 use Rattle.memo.specs.Operations.{entry}
 use Rattle.apply.specs.Joins.{goal}
 use Rattle.apply.specs.Splits.{split_of, skipped}
@@ -22,28 +20,23 @@ use Rattle.apply.specs.declared.split.Weights.{Weights}
 use Rattle.apply.proofs.Zips.{entry_comm, cheaper_never, sum_never, split_base, cheaper_same}
 
 -- where the one has no time
-module _ (nodes : List (Option Node)) (shape : Shape) (store : Store nodes shape) (l : ℕ) (a b : Edge) (none : a.weight ≡ None) where
-  never_chart : (ns : Shape) → (t : Chart) × (chart nodes ns a ≡ later None t)
-  never_chart [] = (None ∷ [], ap (λ w. w ∷ []) none)
-  never_chart (n ∷ ns) = (flat_map (chart nodes ns) (take n (node_at nodes a.child).edges), ap (λ w. later w (flat_map (chart nodes ns) (take n (node_at nodes a.child).edges))) none)
+module _ (nodes : List (Option Node)) (shape : Shape) (l : ℕ) (a b : Edge) (none : a.weight ≡ None) where
+  never : chart nodes (drop l shape) a ≡ later None (chart nodes (drop l shape) a)
+  never = ap (chart nodes (drop l shape)) (λ i. record { weight = none i; child = a.child }) ∙ sym (raised_chart nodes (drop l shape) None a)
 
-  skipped_chart : (op : Op) → Fine nodes (drop l shape) l a → Fine nodes (drop l shape) l b → chart nodes (drop l shape) (skipped op a b) ≡ goal op nodes shape l a b
-  skipped_chart op fa fb =
-      let ns = drop l shape in
-      let t = never_chart ns in
-      let n : length t.0 ≡ length (chart nodes ns b) = sym (length-map t.0 (plus None)) ∙ sym (ap length t.1) ∙ (knows nodes shape store ns l a refl fa).long ∙ sym (knows nodes shape store ns l b refl fb).long in
-      go op t.0 t.1 n
-    where
-      go : (o : Op) (t : Chart) → chart nodes (drop l shape) a ≡ later None t → length t ≡ length (chart nodes (drop l shape) b) → chart nodes (drop l shape) (skipped o a b) ≡ goal o nodes shape l a b
-      go Cheaper t e n = sym (ap (λ c. zipped lesser c (chart nodes (drop l shape) b)) e ∙ cheaper_never t (chart nodes (drop l shape) b) n)
-      go Sum t e n = e ∙ sym (ap (λ c. zipped plus c (chart nodes (drop l shape) b)) e ∙ sum_never t (chart nodes (drop l shape) b) n)
+  skipped_chart : (op : Op) → length (chart nodes (drop l shape) a) ≡ length (chart nodes (drop l shape) b) → chart nodes (drop l shape) (skipped op a b) ≡ goal op nodes shape l a b
+  skipped_chart Cheaper n = sym (ap (λ c. zipped lesser c (chart nodes (drop l shape) b)) never ∙ cheaper_never (chart nodes (drop l shape) a) (chart nodes (drop l shape) b) n)
+  skipped_chart Sum n = never ∙ sym (ap (λ c. zipped plus c (chart nodes (drop l shape) b)) never ∙ sum_never (chart nodes (drop l shape) a) (chart nodes (drop l shape) b) n)
 
 skipped_fine : (op : Op) (P : Edge → Type 0) (a b : Edge) → P a → P b → P (skipped op a b)
 skipped_fine Cheaper P a b p q = q
 skipped_fine Sum P a b p q = p
 
 pub answer_left : (op : Op) (nodes : List (Option Node)) (shape : Shape) → Store nodes shape → (l : ℕ) (a b e : Edge) → a.weight ≡ None → Fine nodes (drop l shape) l a → Fine nodes (drop l shape) l b → e ≡ skipped op a b → Stands nodes shape l (goal op nodes shape l a b) e
-answer_left op nodes shape store l a b e none fa fb is = subst (λ d. Stands nodes shape l (goal op nodes shape l a b) d) (sym is) (skipped_fine op (Fine nodes (drop l shape) l) a b fa fb, skipped_chart nodes shape store l a b none op fa fb)
+answer_left op nodes shape store l a b e none fa fb is =
+    let ns = drop l shape in
+    let long = (knows nodes shape store ns l a refl fa).long ∙ sym (knows nodes shape store ns l b refl fb).long in
+    subst (λ d. Stands nodes shape l (goal op nodes shape l a b) d) (sym is) (skipped_fine op (Fine nodes ns l) a b fa fb, skipped_chart nodes shape l a b none op long)
 
 goal_comm : (op : Op) (nodes : List (Option Node)) (shape : Shape) (l : ℕ) (a b : Edge) → goal op nodes shape l a b ≡ goal op nodes shape l b a
 goal_comm op nodes shape l a b = zipped_comm (entry op) (entry_comm op) (chart nodes (drop l shape) a) (chart nodes (drop l shape) b)

@@ -1,5 +1,13 @@
 -- The steps of joining two edges with times. Assumes nothing.
-use Rattle.std.proofs.Common.{◌≡◌, ℕ, ◌+◌, ◌*◌, ◌<◌, ◌≤◌, false, List, length, get_or, drop, set, Some, Option, sym, refl, ap, ◌∙◌, subst}
+use Rattle.std.proofs.Common.{◌≡◌, ℕ, ◌+◌, ◌*◌, ◌<◌, ◌≤◌, false, List, length, get_or, take, drop, set, Some, None, Option, sym, refl, ap, ◌∙◌, subst, arith}
+use denote.Ref.{Bor}
+use Rattle.std.proofs.iter.Yields.{fronts}
+use Rattle.std.proofs.lemmas.Iterator.{zips}
+use Rattle.std.proofs.lemmas.List.{get_or-take}
+use Rattle.std.specs.Iterator.Adapters.{enumerate_count, enumerate_steps}
+use Rattle.std.specs.declared.iter.Enumerate.{Enumerate}
+use Rattle.std.specs.declared.iter.Zip.{Zip}
+use Rattle.std.specs.declared.slice.Iter.{Iter}
 use Rattle.nodes.specs.declared.edge.Edge.{Edge}
 use Rattle.nodes.specs.declared.node.Node.{Node}
 use Rattle.nodes.specs.declared.remembered.Op.{Op}
@@ -19,13 +27,14 @@ use Rattle.build.specs.Grew.{nodes_in, shape_in, Grew, Begun}
 use Rattle.build.specs.declared.node_store.NodeStore.{NodeStore}
 use Rattle.build.proofs.Grown.{grew_alike, grew_next, stuck_next, begun_next, begun_kids, begun_timely, grew_made, built_made}
 use Rattle.build.proofs.Steps.{stuck_wider}
-use Rattle.build.proofs.Sides.{piece_timely, lower_timely, earlier_timely, moved_fine, from_zero, raise_timely, raise_stands, side_chart, side_long, side_fine, side_piece, side_kid_timely, side_timely}
+use Rattle.build.proofs.Sides.{piece_timely, lower_timely, earlier_timely, moved_fine, from_zero, raise_timely, raise_stands, side_formed, side_chart, side_long, side_fine, side_piece, side_kid_timely, side_timely}
 use Rattle.memo.specs.Operations.{entry}
 use Rattle.memo.specs.Results.{Right}
 use Rattle.apply.specs.Joins.{goal, Joinable}
 use Rattle.apply.specs.Splits.{edge_of, split_of}
 use Rattle.apply.specs.declared.split.TimedEdge.{TimedEdge}
 use Rattle.apply.specs.declared.split.Weights.{Weights}
+use Rattle.apply.proofs.Pairs.{Ahead, Turn, turn, ended}
 use Rattle.apply.proofs.Zips.{zipped_piece, split_zip, split_left, split_right}
 
 -- What is left of two edges
@@ -111,14 +120,40 @@ pub record Next (op : Op) (old mid : NodeStore) (l : ℕ) (x y : TimedEdge) (i :
   pub left : d ≡ raised (Some x.weight) (get_or (node_at (nodes_in old) x.child).edges i none_edge)
   pub right : e ≡ raised (Some y.weight) (get_or (node_at (nodes_in old) y.child).edges i none_edge)
 
-pub next_of : {op : Op} {old mid : NodeStore} {l : ℕ} {x y : TimedEdge} {i n : ℕ} {kids : List Edge} {d e : Edge} {p q : Node} → Pair op old l x y → Begun old mid l (goal op (nodes_in old) (shape_in old) l (edge_of x) (edge_of y)) i kids → n ≡ get_or (shape_in old) l 0 → i < n → p ≡ node_at (nodes_in old) x.child → q ≡ node_at (nodes_in old) y.child → d ≡ raised (Some x.weight) (get_or p.edges i none_edge) → e ≡ raised (Some y.weight) (get_or q.edges i none_edge) → Next op old mid l x y i kids d e
-next_of {x} {y} {i} pair way hn il hp hq hd he = record {
-  pair = pair;
-  below = subst (λ m. i < m) hn il;
-  way = way;
-  left = hd ∙ ap (λ (v : Node). raised (Some x.weight) (get_or v.edges i none_edge)) hp;
-  right = he ∙ ap (λ (v : Node). raised (Some y.weight) (get_or v.edges i none_edge)) hq;
-}
+-- the first n edges of the node that an edge leads to
+abbrev pub edges_of : NodeStore → TimedEdge → ℕ → List Edge
+edges_of old x n = take n (node_at (nodes_in old) x.child).edges
+
+-- those of both, gone through in step
+module _ {op : Op} {old : NodeStore} {l : ℕ} {x y : TimedEdge} (pair : Pair op old l x y) {n : ℕ} {s : Enumerate (Zip (Iter Edge) (Iter Edge))} (ahead : Ahead (edges_of old x n) (edges_of old y n) s) (count : n ≡ get_or (shape_in old) l 0) where
+  wide : length (edges_of old x n) ≡ n
+  wide = subst (λ m. length (edges_of old x m) ≡ m) (sym count) (side_formed (nodes_in old) (shape_in old) old.ready.store l pair.lt (edge_of x) x.weight (node_at (nodes_in old) x.child) pair.able.left refl refl).wide
+
+  module _ (t : Enumerate (Zip (Iter Edge) (Iter Edge))) {r : Option (ℕ × (Bor Edge × Bor Edge))} where
+    pub two_all : r ≡ None → enumerate_steps (zips fronts fronts) s r t → enumerate_count s ≡ get_or (shape_in old) l 0
+    two_all none steps = ended t ahead none steps ∙ wide ∙ count
+
+    module _ {i : ℕ} {p : Bor Edge × Bor Edge} (is : r ≡ Some (i, p)) (steps : enumerate_steps (zips fronts fronts) s r t) where
+      pub two : Turn (edges_of old x n) (edges_of old y n) s t i p
+      two = turn ahead is steps
+
+      pub two_below : i < get_or (shape_in old) l 0
+      two_below = omega (arith, two.below, wide, count)
+
+      pub two_left : p.0.now ≡ get_or (node_at (nodes_in old) x.child).edges i none_edge
+      two_left = two.left ∙ get_or-take n (node_at (nodes_in old) x.child).edges i none_edge (omega (arith, two_below, count))
+
+      pub two_right : p.1.now ≡ get_or (node_at (nodes_in old) y.child).edges i none_edge
+      two_right = two.right ∙ get_or-take n (node_at (nodes_in old) y.child).edges i none_edge (omega (arith, two_below, count))
+
+      pub next_of : {mid : NodeStore} {kids : List Edge} {d e : Edge} → Begun old mid l (goal op (nodes_in old) (shape_in old) l (edge_of x) (edge_of y)) (enumerate_count s) kids → d ≡ raised (Some x.weight) p.0.now → e ≡ raised (Some y.weight) p.1.now → Next op old mid l x y i kids d e
+      next_of {mid} {kids} way hd he = record {
+        pair = pair;
+        below = two_below;
+        way = subst (λ k. Begun old mid l (goal op (nodes_in old) (shape_in old) l (edge_of x) (edge_of y)) k kids) (sym two.at) way;
+        left = hd ∙ ap (raised (Some x.weight)) two_left;
+        right = he ∙ ap (raised (Some y.weight)) two_right;
+      }
 
 module _ {op : Op} {old : NodeStore} {l : ℕ} {x y : TimedEdge} (pair : Pair op old l x y) where
   lt : l < length (shape_in old)

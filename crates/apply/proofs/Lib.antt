@@ -1,4 +1,5 @@
--- charts joined entry by entry: Zips; answers that make no node: Answering; the loop: Joining
+-- charts joined entry by entry: Zips; answers that make no node: Answering; two nodes' edges in step: Pairs; the loop: Joining
 pub mod Zips
 pub mod Answering
+pub mod Pairs
 pub mod Joining

@@ -94,11 +94,12 @@ fn join_kids(
 {
     let left = diagrams.store.node_at(x.child);
     let right = diagrams.store.node_at(y.child);
+    let count = diagrams.store.count(level);
+    let pairs = left.edges[..count].iter().zip(&right.edges[..count]);
     let mut kids = [NEVER; 8];
-    // By index: three arrays go in step.
-    for i in 0..diagrams.store.count(level) {
-        let d = raise(left.edges[i], x.weight);
-        let e = raise(right.edges[i], y.weight);
+    for (i, (a, b)) in pairs.enumerate() {
+        let d = raise(*a, x.weight);
+        let e = raise(*b, y.weight);
         kids[i] = join(diagrams, op, level + 1, d, e)?;
     }
     Some(kids)

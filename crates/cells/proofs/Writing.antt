@@ -1,5 +1,5 @@
 -- The turns of loops that write cells, runs and blocks. Assumes nothing.
-use Rattle.std.proofs.Common.{◌≡◌, ℕ, suc, ◌+◌, ◌-◌, ◌*◌, ◌++◌, take, drop, replicate, ◌<◌, ◌≤◌, ◌≢◌, ◌⊎◌, List, length, get_or, set, None, sym, ap, ◌∙◌, inl, inr, ⊎_elim, suc-mul, add-one, arith, below_more}
+use Rattle.std.proofs.Common.{◌≡◌, ℕ, suc, ◌+◌, ◌-◌, ◌*◌, ◌++◌, take, drop, replicate, ◌<◌, ◌≤◌, ◌≢◌, ◌⊎◌, List, length, get_or, set, None, sym, ap, subst, ◌∙◌, inl, inr, ⊎_elim, suc-mul, add-one, arith, below_more}
 use Rattle.std.proofs.lemmas.Nat.{mul-le}
 use Rattle.std.proofs.lemmas.List.{get_or-set_same, get_or-set_other, get_or-take, get_or-drop, get_or-append-add, length-take-le, length-drop, length-replicate, get_or-replicate}
 use Rattle.std.proofs.lemmas.Slice.{take-put_mid, take-put_mid_below, drop-put_mid}
@@ -41,7 +41,7 @@ cell_kept n i base from f old now apart h w =
     w.outside (from + i) (⊎_elim (λ e. inr (omega arith)) (⊎_elim (λ e. inl (omega arith)) (λ e. inr (omega arith))) apart)
 
 -- a part of the cells that is written as a whole
-written_part : (n base m : ℕ) (f : ℕ → Time) (old part : List Time) → base + n ≤ length old → m ≡ n → length part ≡ n → ((k : ℕ) → k < n → get_or part k None ≡ f k) → Written n base f old (put_mid base m old part)
+pub written_part : (n base m : ℕ) (f : ℕ → Time) (old part : List Time) → base + n ≤ length old → m ≡ n → length part ≡ n → ((k : ℕ) → k < n → get_or part k None ≡ f k) → Written n base f old (put_mid base m old part)
 written_part n base m f old part l em e each =
     let new = put_mid base m old part in
     record {
@@ -61,11 +61,13 @@ written_part n base m f old part l em e each =
     }
 
 -- a run filled with one entry
-pub written_fill : (n base m : ℕ) (v : Time) (old part : List Time) → base + n ≤ length old → m ≡ n → part ≡ replicate (length (take m (drop base old))) v → Written n base (λ _. v) old (put_mid base m old part)
-written_fill n base m v old part l em e =
-    let long : length (take m (drop base old)) ≡ n = length-take-le m (drop base old) (omega (arith, length-drop base old)) ∙ em in
-    written_part n base m _ old part l em (ap length e ∙ length-replicate _ v ∙ long)
-    (λ k h. ap (λ xs. get_or xs k None) e ∙ get_or-replicate _ k v None (omega arith))
+pub written_fill : (n base at m : ℕ) (v : Time) (old part : List Time) → at ≡ base → at + n ≤ length old → m ≡ n → part ≡ replicate (length (take m (drop at old))) v → Written n base (λ _. v) old (put_mid at m old part)
+written_fill n base at m v old part here l em e =
+    let long : length (take m (drop at old)) ≡ n = length-take-le m (drop at old) (omega (arith, length-drop at old)) ∙ em in
+    let w : Written n at (λ _. v) old (put_mid at m old part) =
+    written_part n at m _ old part l em (ap length e ∙ length-replicate _ v ∙ long)
+    (λ k h. ap (λ xs. get_or xs k None) e ∙ get_or-replicate _ k v None (omega arith)) in
+    subst (λ k. Written n k (λ _. v) old (put_mid at m old part)) here w
 
 -- a run copied to another, or to itself
 pub written_copy : (n to from m : ℕ) (old new : List Time) → m ≡ n → CopiedTo old new from to m → SameBelow old new to → SameFrom old new (to + m) → Written n to (λ k. get_or old (from + k) None) old new

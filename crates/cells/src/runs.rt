@@ -1,14 +1,13 @@
 ghost use Rattle.std.specs.Prelude.{◌+◌, ◌*◌, ◌<◌, ◌≤◌, length, None, slice_index_or};
 ghost use Rattle.model.specs.Limits.{most_settings};
-ghost use Rattle.cells.specs.Writes.{Apart, Written, Runs, Blocks, Source};
+ghost use Rattle.cells.specs.Writes.{Apart, Runs, Blocks, Source};
 
 use lists::limits::MOST_SETTINGS;
 
-// A row, a block and a run are named by the cell at which they begin: a put reads one row of the cells and writes
-// another or the same. Chunks of a row, lent one after another, would read better, but once such a loan is over a
-// proof knows how many cells there are and not what they hold. Dials and puts share no loop: what a put writes
-// in a block depends on its source as it stood before the loop, which may be the same row, so a step passed to one loop
-// would have to say for each block what it reads and what it leaves, at more length than the loops.
+// Rows lie in one slice, and a put reads one of them and writes it or another, so rows and runs are named by the cell
+// at which they begin, and runs are copied within the slice. In `dial_block` two loops without indices were tried, one
+// over `chunks_exact_mut` and one that goes on with what `split_at_mut` leaves: after either, no fact is left that says
+// what the block holds, and the check stops there.
 
 /// How a row falls into blocks, each with a run of cells for each setting of one device.
 #[derive(Clone, Copy)]
@@ -18,24 +17,17 @@ pub struct Strides {
     pub stride: usize,
 }
 
-/// Writes each setting's entry into its run of a block.
-fn dial_block(
-    cells: &mut [Option<u64>],
-    base: usize,
-    strides: Strides,
-    entries: &[Option<u64>; MOST_SETTINGS],
-)
-    requires within { base + strides.count * strides.stride ≤ length cells.old }
-    requires few { strides.count ≤ most_settings }
-    ensures runs { Runs strides.count strides.stride base (λ d _. slice_index_or entries.now d None) cells.old cells.new }
+/// Writes each entry into its run of a block.
+fn dial_block(block: &mut [Option<u64>], stride: usize, entries: &[Option<u64>])
+    requires within { length entries.now * stride ≤ length block.old }
+    ensures runs { Runs (length entries.now) stride 0 (λ d _. slice_index_or entries.now d None) block.old block.new }
 {
-    for (d, entry) in entries[..strides.count].iter().enumerate() {
-        let run = base + d * strides.stride;
-        cells[run..run + strides.stride].fill(*entry);
+    for (d, entry) in entries.iter().enumerate() {
+        block[d * stride..(d + 1) * stride].fill(*entry);
     }
 }
 
-/// Writes each setting's entry into its runs of a row.
+/// Writes each setting's entry into its runs of a row: into those of the first block, which is copied to the others.
 pub fn dial_row(
     cells: &mut [Option<u64>],
     base: usize,
@@ -48,19 +40,22 @@ pub fn dial_row(
     ensures blocks { Blocks strides.blocks strides.count strides.stride base (λ _ d _. slice_index_or entries.now d None) cells.old cells.new }
 {
     let block = strides.count * strides.stride;
-    for b in 0..strides.blocks {
-        dial_block(cells, base + b * block, strides, entries);
-    }
+    dial_block(
+        &mut cells[base..base + block],
+        strides.stride,
+        &entries[..strides.count],
+    );
+    spread_run(cells, base + block, base, strides.blocks - 1, block);
 }
 
-/// Copies one run to each run of a block.
-fn put_block(cells: &mut [Option<u64>], to: usize, from: usize, strides: Strides)
-    requires within { (to + strides.count * strides.stride ≤ length cells.old) × (from + strides.stride ≤ length cells.old) }
-    requires source { Source strides.count strides.stride to from }
-    ensures runs { Runs strides.count strides.stride to (λ _ r. slice_index_or cells.old (from + r) None) cells.old cells.new }
+/// Copies one run to each of `count` runs, of `width` cells each.
+fn spread_run(cells: &mut [Option<u64>], to: usize, from: usize, count: usize, width: usize)
+    requires within { (to + count * width ≤ length cells.old) × (from + width ≤ length cells.old) }
+    requires source { Source count width to from }
+    ensures runs { Runs count width to (λ _ r. slice_index_or cells.old (from + r) None) cells.old cells.new }
 {
-    for x in 0..strides.count {
-        cells.copy_within(from..from + strides.stride, to + x * strides.stride);
+    for x in 0..count {
+        cells.copy_within(from..from + width, to + x * width);
     }
 }
 
@@ -74,11 +69,12 @@ pub fn put_row(cells: &mut [Option<u64>], to: usize, from: usize, strides: Strid
 {
     let block = strides.count * strides.stride;
     for b in 0..strides.blocks {
-        put_block(
+        spread_run(
             cells,
             to + b * block,
             from + (b * block + setting * strides.stride),
-            strides,
+            strides.count,
+            strides.stride,
         );
     }
 }

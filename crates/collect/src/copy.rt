@@ -43,7 +43,7 @@ pub fn copy(
     let made = spare.make(level, kids)?;
     note(moved, e.child, made.child);
     Some(Edge {
-        weight: e.weight,
         child: made.child,
+        ..e
     })
 }

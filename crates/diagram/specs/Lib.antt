@@ -1,2 +1,1 @@
-pub mod Once
 pub mod Means

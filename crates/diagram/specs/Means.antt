@@ -20,7 +20,7 @@ meaning_of store pegs = record {
 }
 
 abbrev pub means : DiagramShelf → Meaning
-means s = meaning_of s.diagrams.store s.pegs
+means s = meaning_of s.charts.diagrams.store s.charts.pegs
 
 -- a chart is hung where there is room for it, and else nothing changes
 abbrev pub Hung : Meaning → Meaning → ℕ → Chart → Result (Unit {0}) ShelfFault → Type 0

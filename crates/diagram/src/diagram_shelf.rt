@@ -1,25 +1,23 @@
-ghost use Rattle.std.specs.Prelude.{◌≡◌, length};
-ghost use Rattle.lists.specs.declared.limits.TheConstants.{PEGS};
-ghost use Rattle.pegs.specs.Held.{Alike, Held};
-ghost use Rattle.diagram.specs.Once.{alike_prop, held_prop};
+ghost use Rattle.std.specs.Prelude.{◌≡◌, false};
+ghost use Rattle.model.specs.Scenes.{shape_off};
+ghost use Rattle.build.specs.Grew.{shape_in};
+ghost use Rattle.pegs.specs.Held.{Alike};
+ghost use Rattle.pegs.specs.Once.{alike_prop};
 
 use build::node_store::NodeStore;
+use hang::charts::Charts;
 use lists::limits::PEGS;
-use memo::diagrams::Diagrams;
-use nodes::edge::Edge;
 
 /// A shelf whose charts share the nodes of one store.
 ///
 /// `spare` and `moved` are for collecting.
 #[derive(Drop)]
 pub struct DiagramShelf {
-    diagrams: Diagrams,
+    charts: Charts<PEGS>,
     spare: NodeStore,
     moved: Vec<Option<u16>>,
-    pegs: [Option<Edge>; PEGS],
-    ghost eight: { length pegs ≡ PEGS },
-    ghost alike: { Alike diagrams.store spare } by { alike_prop diagrams.store spare },
-    ghost held: { Held diagrams.store pegs } by { held_prop diagrams.store pegs },
+    ghost legal: { shape_off (shape_in charts.diagrams.store) ≡ false },
+    ghost alike: { Alike charts.diagrams.store spare } by { alike_prop charts.diagrams.store spare },
 }
 
 pub mod hanging;

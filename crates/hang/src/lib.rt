@@ -2,6 +2,5 @@
 //! the slots.
 #![tactic(auto)]
 
-pub mod attempt;
-pub mod retry;
+pub mod charts;
 pub mod task;

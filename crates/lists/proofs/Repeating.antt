@@ -1,9 +1,10 @@
 -- The first repeated entry, and the test whether there is one. Assumes nothing.
-use Rattle.std.proofs.Common.{◌≡◌, ℕ, zero, suc, ◌<◌, Bool, true, false, ◌||◌, List, [], ◌∷◌, length, Option, Some, None, is_some, MatchOption, sym, refl, arith}
+use Rattle.std.proofs.Common.{◌≡◌, ℕ, zero, suc, ◌<◌, ◌≤◌, take, get_or, Bool, true, false, ◌||◌, List, [], ◌∷◌, length, Option, Some, None, is_some, MatchOption, sym, refl, ap, ap₂, ◌∙◌, arith}
+use Rattle.std.proofs.lemmas.List.{get_or_default, get_or-take, length-take-le}
 use Rattle.std.proofs.lemmas.Bool.{false≢true, or_right, false_from_ne_true}
 use Rattle.model.specs.Lists.{some, repeats}
 use Rattle.model.proofs.Tests.{absurd, some_at, some_found}
-use Rattle.lists.specs.Repeats.{Alike, Apart, Repeated}
+use Rattle.lists.specs.Repeats.{Alike, New, Apart, Repeated, has_stood}
 
 module _ {X : Type 0} (same : X → X → Bool) where
   -- two entries that are the same
@@ -35,3 +36,30 @@ module _ {X : Type 0} (same : X → X → Bool) where
   pub first_tested : (xs : List X) (r : Option ℕ) → MatchOption r (Apart same xs (length xs)) (λ i. Repeated same xs i) → is_some r ≡ repeats same xs
   first_tested xs None apart = sym (apart_none xs apart)
   first_tested xs (Some i) at = sym (repeated_some xs i at)
+
+  -- the entry at i, by any other default
+  pub stood_of : (xs : List X) (i : ℕ) (d : X) → i < length xs → some (λ y. same y (get_or xs i d)) (take i xs) ≡ has_stood same xs i
+  stood_of [] i d h = absurd (omega arith)
+  stood_of (x ∷ xs) i d h = ap (λ v. some (λ y. same y v) (take i (x ∷ xs))) (get_or_default (x ∷ xs) i d x h)
+
+  -- what the test says of the earlier entries
+  stood_at : (xs : List X) (i : ℕ) → i < length xs → has_stood same xs i ≡ true → (j : ℕ) × (j < i) × Alike same xs j i
+  stood_at [] i h e = absurd (omega arith)
+  stood_at (x ∷ xs) i h e =
+      let f = some_found (λ y. same y (get_or (x ∷ xs) i x)) (take i (x ∷ xs)) e in
+      let lt : f.0 < i = omega (arith, f.1, length-take-le i (x ∷ xs)) in
+      (f.0, lt, λ d. ap₂ same (sym (get_or-take i (x ∷ xs) f.0 d lt)) (get_or_default (x ∷ xs) i d x h) ∙ f.2 d)
+
+  new_at : (xs : List X) (i : ℕ) → i < length xs → has_stood same xs i ≡ false → New same xs i i
+  new_at [] i h e = absurd (omega arith)
+  new_at (x ∷ xs) i h e = λ j lt a.
+      let short : j < length (take i (x ∷ xs)) = omega (arith, length-take-le i (x ∷ xs)) in
+      let met : has_stood same (x ∷ xs) i ≡ true = some_at (λ y. same y (get_or (x ∷ xs) i x)) (take i (x ∷ xs)) j x short (ap (λ v. same v (get_or (x ∷ xs) i x)) (get_or-take i (x ∷ xs) j x lt) ∙ a x) in
+      false≢true (sym e ∙ met)
+
+  -- what a search of the places by the test finds
+  pub first_place : (xs : List X) (r : Option ℕ)
+      → MatchOption r ((k : ℕ) → 0 ≤ k → k < length xs → has_stood same xs k ≡ false) (λ i. (0 ≤ i) × (i < length xs) × (has_stood same xs i ≡ true) × ((k : ℕ) → 0 ≤ k → k < i → has_stood same xs k ≡ false))
+      → MatchOption r (Apart same xs (length xs)) (λ i. Repeated same xs i)
+  first_place xs None none = λ k h. new_at xs k h (none k (omega arith) h)
+  first_place xs (Some i) (low, h, at, none) = (h, (λ k lt. new_at xs k (omega arith) (none k (omega arith) lt)), stood_at xs i h at)

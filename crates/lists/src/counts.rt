@@ -26,6 +26,7 @@ pub fn some_outside(least: u8, most: u8, numbers: &[u8]) -> bool
 pub fn shape_off(settings: &[u8]) -> bool
     ensures { result ≡ is_shape_off settings.now }
 {
+    // A cast, since no `From` leads from `usize` to `u8`; the number is 8.
     !(1..=MOST_DEVICES).contains(&settings.len())
         || some_outside(LEAST_SETTINGS, MOST_SETTINGS as u8, settings)
 }

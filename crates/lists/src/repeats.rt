@@ -1,6 +1,6 @@
-ghost use Rattle.std.specs.Prelude.{◌≡◌, ℕ, ◌<◌, Bool, length, is_some, MatchBool, MatchOption};
+ghost use Rattle.std.specs.Prelude.{◌≡◌, ◌<◌, Bool, length, is_some, MatchOption};
 ghost use Rattle.model.specs.Lists.{repeats as some_repeat};
-ghost use Rattle.lists.specs.Repeats.{Alike, New, Apart, Repeated};
+ghost use Rattle.lists.specs.Repeats.{has_stood, Apart, Repeated};
 
 /// An entry of a list in which no two may have the same key.
 pub trait Keyed {
@@ -14,7 +14,7 @@ pub trait Keyed {
 /// Whether an entry before the one at `i` has its key.
 fn stood<T: Keyed>(items: &[T], i: usize) -> bool
     requires { i < length items.now }
-    ensures { MatchBool result ((j : ℕ) × (j < i) × Alike T.Keyed.same items.now j i) (New T.Keyed.same items.now i i) }
+    ensures { result ≡ has_stood T.Keyed.same items.now i }
 {
     let item = &items[i];
     items[..i].iter().any(|earlier| earlier.has_key_of(item))
@@ -25,11 +25,5 @@ pub fn first_repeat<T: Keyed>(items: &[T]) -> Option<usize>
     ensures first { MatchOption result (Apart T.Keyed.same items.now (length items.now)) (λ i. Repeated T.Keyed.same items.now i) }
     ensures test { is_some result ≡ some_repeat T.Keyed.same items.now }
 {
-    // Not `find` over the places: tried, and of a place where `stood` is false no search finds that no earlier item has its key.
-    for i in 0..items.len() {
-        if stood(items, i) {
-            return Some(i);
-        }
-    }
-    None
+    (0..items.len()).find(|&i| stood(items, i))
 }

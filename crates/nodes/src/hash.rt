@@ -1,4 +1,4 @@
-ghost use Rattle.std.specs.Prelude.{◌≡◌, ◌^◌, ◌<◌};
+ghost use Rattle.std.specs.Prelude.{◌≡◌, ◌^◌, ◌%◌, ◌<◌};
 ghost use Rattle.nodes.specs.Hashes.{mixed, code as the_code};
 
 use crate::edge::Edge;
@@ -19,9 +19,17 @@ pub fn mix(start: u64, edges: &[Edge]) -> u64
     requires { start < 4294967296 }
     ensures { result ≡ mixed start edges.now }
 {
-    let mut h = start;
-    for e in edges {
-        h = (h * 16777619 + code(*e)) % MODULUS;
-    }
-    h
+    edges
+        .iter()
+        .fold(start, |h, e| (h * 16777619 + code(*e)) % MODULUS)
+}
+
+/// The slot, among so many, at which a search starts: it depends on the level and on each of the edges.
+pub fn start(level: u8, edges: &[Edge], slots: usize) -> usize
+    requires { 0 < slots }
+    ensures value { result ≡ mixed level edges.now % slots }
+    ensures within { result < slots }
+{
+    // `as` both ways, since `u64` and `usize` have no `From`; neither loses anything.
+    (mix(u64::from(level), edges) % slots as u64) as usize
 }

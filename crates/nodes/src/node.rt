@@ -3,7 +3,7 @@ ghost use Rattle.nodes.specs.Hashes.{mixed};
 ghost use Rattle.std.proofs.Common.{rules};
 
 use crate::edge::Edge;
-use crate::hash::mix;
+use crate::hash;
 use table::entry::Entry;
 
 /// A node of a diagram: the device that it branches on, the greatest time below it, and an edge for each setting.
@@ -35,8 +35,7 @@ impl Entry for Node {
         *self == *other
     }
 
-    // `as` both ways, since `u64` and `usize` have no `From`; neither loses anything.
     fn start(&self, slots: usize) -> usize {
-        (mix(u64::from(self.level), &self.edges) % slots as u64) as usize
+        hash::start(self.level, &self.edges, slots)
     }
 }

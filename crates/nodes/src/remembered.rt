@@ -3,7 +3,7 @@ ghost use Rattle.nodes.specs.Keys.{SameKey, initial_of};
 ghost use Rattle.std.proofs.Common.{rules};
 
 use crate::edge::Edge;
-use crate::hash::mix;
+use crate::hash;
 use table::entry::Entry;
 
 /// An operation on the two entries of a scene.
@@ -54,9 +54,8 @@ impl Entry for Remembered {
         self.key == other.key
     }
 
-    // `as` both ways, since `u64` and `usize` have no `From`; neither loses anything.
     fn start(&self, slots: usize) -> usize {
         let edges = [self.key.left, self.key.right];
-        (mix(u64::from(self.key.level), &edges) % slots as u64) as usize
+        hash::start(self.key.level, &edges, slots)
     }
 }

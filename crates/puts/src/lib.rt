@@ -16,6 +16,8 @@ use nodes::remembered::{Key, Operation, Remembered};
 
 /// The edge whose chart gives a scene what the chart of `e` gives once the device is at the setting, or none where no
 /// slot is free for one of its parts.
+// The kids by a loop, as for dials, copies and joins: `array::try_from_fn` says nothing of the store that its calls
+// leave, and for a function of our own a closure that calls `put` has to write out the clauses of `put` once more.
 pub fn put(diagrams: &mut Diagrams, level: usize, device: u8, setting: u8, e: Edge) -> Option<Edge>
     requires above { level ≤ device }
     requires depth { device < length (shape_in diagrams.old.store) }

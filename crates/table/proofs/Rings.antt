@@ -1,10 +1,10 @@
 -- Steps round a ring, and what a search has passed.
-use Rattle.std.proofs.Common.{◌≡◌, ℕ, ◌+◌, ◌<◌, ◌≤◌, true, ◌⊎◌, List, length, set, is_some, Some, None, Option, sym, refl, ap, ◌∙◌, subst, subst₂, inl, inr, arith}
+use Rattle.std.proofs.Common.{◌≡◌, ℕ, ◌<◌, ◌≤◌, true, ◌⊎◌, List, length, set, is_some, Some, None, Option, sym, refl, ap, ◌∙◌, subst, subst₂, inl, inr, arith}
 use Rattle.std.specs.Option.{unwrap_or}
 use Rattle.std.proofs.lemmas.Bool.Decides.{nat_tests}
 use Rattle.std.proofs.lemmas.Bool.{both_ways, cases_lt, cases_order, cases_eq}
 use Rattle.std.proofs.lemmas.List.{get_or-set_same, get_or-set_other, length-set}
-use Rattle.table.specs.Tables.{steps, slot, Probed, Absent, Apart, Table, Kept, Empty}
+use Rattle.table.specs.Tables.{steps, slot, Probed, Absent, Apart, Kept}
 use Rattle.table.specs.Finds.{Others, FindsIn, Finds, Open}
 use Rattle.table.specs.declared.found.Found.{Found}
 use Rattle.table.specs.declared.found.Found.TheVariants.{At, Free, Full}
@@ -28,18 +28,6 @@ steps_same n h k m p q r e = grind (arith, nat_tests)
 
 empty_or_not : {E : Type 0} (o : Option E) (x : E) → o ≡ None → o ≡ Some x → ⊥
 empty_or_not o x p q = both_ways (is_some o) (ap is_some p) (ap is_some q)
-
-module _ {E : Type 0} (alike : E → E → Type 0) (slots : List (Option E)) (e : E) (from : ℕ) where
-  -- a search that has not begun has passed no slot
-  pub others_none : Others alike slots e from from
-  others_none m p q = absurd (omega arith)
-
-  -- one slot more is passed
-  pub others_more : (i : ℕ) (x : E) → slot slots i ≡ Some x → (alike x e → ⊥) → Others alike slots e from i → Others alike slots e from (i + 1)
-  others_more i x here unlike others m p q = elim (cases_eq m i) [
-    | inl s ↦ let o : slot slots m ≡ Some x = ap (slot slots) s ∙ here in (ap is_some o, λ y h l. let z : x ≡ y = cc in unlike (subst (λ v. alike v e) (sym z) l))
-    | inr s ↦ others m p (omega arith)
-  ]
 
 module _ {E : Type 0} (alike : E → E → Type 0) (initial : E → ℕ → ℕ) (slots : List (Option E)) (e : E) where
   -- all that is passed before a slot, whether the search came to it before or after the end of the slots

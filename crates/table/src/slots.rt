@@ -1,4 +1,4 @@
-ghost use Rattle.std.specs.Prelude.{◌≡◌, ◌≤◌, length, Some, slice_set};
+ghost use Rattle.std.specs.Prelude.{◌≡◌, ◌+◌, ◌<◌, ◌≤◌, length, Some, slice_set};
 ghost use Rattle.table.specs.Tables.{slot, Table, Kept, Empty};
 ghost use Rattle.table.specs.Finds.{FindsIn, Finds, Open, Interned};
 
@@ -12,23 +12,23 @@ pub fn taken<E: Copy>(slots: &[Option<E>], i: usize) -> Option<E>
     slots.get(i).copied().flatten()
 }
 
+/// What slot `i` alone answers a search for the key of `e`; none where an entry with another key takes it.
+fn met<E: Entry>(slots: &[Option<E>], e: &E, i: usize) -> Option<Found>
+    requires within { i < length slots.now }
+    ensures { FindsIn E.alike slots.now e.now i (i + 1) result }
+{
+    match &slots[i] {
+        None => Some(Found::Free(i)),
+        Some(x) => x.same_key(e).then_some(Found::At(i)),
+    }
+}
+
 /// Looks for the entry with the key of `e`, slot by slot up to a free one; none where others take all these slots.
-// By number: of a chain over the slots a proof gets only that its calls of `next` answered them, not in which slot.
 fn find_in<E: Entry>(slots: &[Option<E>], e: &E, from: usize, to: usize) -> Option<Found>
     requires within { to ≤ length slots.now }
     ensures { FindsIn E.alike slots.now e.now from to result }
 {
-    for i in from..to {
-        match &slots[i] {
-            None => return Some(Found::Free(i)),
-            Some(x) => {
-                if x.same_key(e) {
-                    return Some(Found::At(i));
-                }
-            }
-        }
-    }
-    None
+    (from..to).find_map(|i| met(slots, e, i))
 }
 
 /// Looks for the entry with the key of `e`, slot by slot from its start, round the slice.

@@ -4,7 +4,6 @@ ghost use Rattle.hang.specs.Tasks.{Allowed, made};
 ghost use Rattle.diagram.specs.Means.{means, Hung};
 
 use crate::diagram_shelf::DiagramShelf;
-use hang::retry::hang;
 use hang::task::Task;
 use lists::limits::PEGS;
 use shelf::fault::ShelfFault;
@@ -15,7 +14,7 @@ impl DiagramShelf {
         requires low { peg < PEGS }
         ensures value { result ≡ is_bare (means self.now).pegs peg }
     {
-        self.pegs[peg].is_none()
+        self.charts.pegs[peg].is_none()
     }
 
     /// Hangs a chart on a peg, or refuses it for want of room.
@@ -24,14 +23,8 @@ impl DiagramShelf {
         requires allowed { Allowed (means self.old).shape (means self.old).pegs task }
         ensures hung { Hung (means self.old) (means self.new) target (made (means self.old).shape (means self.old).pegs task) result }
     {
-        hang(
-            task,
-            &mut self.diagrams,
-            &mut self.spare,
-            self.moved.as_mut_slice(),
-            &mut self.pegs,
-            target,
-        )
-        .ok_or(ShelfFault::NoRoom)
+        self.charts
+            .hang(&mut self.spare, self.moved.as_mut_slice(), task, target)
+            .ok_or(ShelfFault::NoRoom)
     }
 }

@@ -1,4 +1,4 @@
-use Rattle.std.proofs.Common.{◌<◌, length, get_or, Some, None, sym, ap, ◌∙◌, arith, rules}
+use Rattle.std.proofs.Common.{length, Some, None, sym, ap, ◌∙◌, arith, rules}
 use Rattle.nodes.specs.declared.remembered.Operation.TheVariants.{Join}
 use Rattle.model.specs.Charts.{late}
 use Rattle.build.specs.Grew.{nodes_in, shape_in}
@@ -6,7 +6,7 @@ use Rattle.build.proofs.Grown.{ready_in}
 use Rattle.build.proofs.Sides.{weight_timely}
 use Rattle.memo.specs.Results.{Right}
 use Rattle.apply.proofs.Answering.{answer_left, answer_right, answer_leaf, answer_same}
-use Rattle.apply.proofs.Joining.{sides_of, pair_of, next_of, rest_joinable, rest_stuck, rest_timely, rest_stands, rest_grew, raise_left, raise_right, kid_joinable, join_grew, join_stuck, join_more, kids_ready, kids_timely, join_made, join_built, join_right}
+use Rattle.apply.proofs.Joining.{sides_of, pair_of, two, two_below, two_left, two_right, two_all, next_of, rest_joinable, rest_stuck, rest_timely, rest_stands, rest_grew, raise_left, raise_right, kid_joinable, join_grew, join_stuck, join_more, kids_ready, kids_timely, join_made, join_built, join_right}
 use Rattle.apply.proofs.join.+joins.Goals as goal
 
 pub join-returns-in_default-clause-built : goal.join-returns-in_default-clause-built
@@ -100,31 +100,38 @@ join_nodes-returns t c =
 pub join_kids-raise-d-requires : goal.join_kids-raise-d-requires
 join_kids-raise-d-requires t c =
     let pair = pair_of c.args.op c.args.diagrams.now.store c.args.level c.args.x c.args.y c.requires.depth c.requires.joinable in
-    let il : c.loop-i.i < get_or (shape_in c.args.diagrams.now.store) c.args.level 0 = omega (arith, c.count-i-end.ensures.value) in
-    rw c.node_at-left.ensures.value (raise_left pair c.loop-i.i il)
+    let at = c.loop-i.invariant.2 in
+    let n = c.count-count.ensures.value in
+    rw (two_left pair at n c.next.new.self c.in-Some.is c.next.ensures.steps) (raise_left pair c.in-Some.i (two_below pair at n c.next.new.self c.in-Some.is c.next.ensures.steps))
 
 pub join_kids-raise-e-requires : goal.join_kids-raise-e-requires
 join_kids-raise-e-requires t c =
     let pair = pair_of c.args.op c.args.diagrams.now.store c.args.level c.args.x c.args.y c.requires.depth c.requires.joinable in
-    let il : c.loop-i.i < get_or (shape_in c.args.diagrams.now.store) c.args.level 0 = omega (arith, c.count-i-end.ensures.value) in
-    rw c.node_at-right.ensures.value (raise_right pair c.loop-i.i il)
+    let at = c.loop-i.invariant.2 in
+    let n = c.count-count.ensures.value in
+    rw (two_right pair at n c.next.new.self c.in-Some.is c.next.ensures.steps) (raise_right pair c.in-Some.i (two_below pair at n c.next.new.self c.in-Some.is c.next.ensures.steps))
 
 pub join_kids-join-requires : goal.join_kids-join-requires
 join_kids-join-requires t c =
     let pair = pair_of c.args.op c.args.diagrams.now.store c.args.level c.args.x c.args.y c.requires.depth c.requires.joinable in
-    let next = next_of pair c.loop-i.invariant c.count-i-end.ensures.value c.loop-i-test.true c.node_at-left.ensures.value c.node_at-right.ensures.value c.raise-d.ensures c.raise-e.ensures in
-    (omega (arith, ap length c.loop-i.invariant.same, c.requires.depth), (omega (arith, ap length c.loop-i.invariant.same), kid_joinable next))
+    let next = next_of pair c.loop-i.invariant.2 c.count-count.ensures.value c.next.new.self c.in-Some.is c.next.ensures.steps c.loop-i.invariant.3 c.raise-d.ensures c.raise-e.ensures in
+    (omega (arith, ap length c.loop-i.invariant.3.same, c.requires.depth), (omega (arith, ap length c.loop-i.invariant.3.same), kid_joinable next))
 
 pub join_kids-returns-in_err-kids : goal.join_kids-returns-in_err-kids
 join_kids-returns-in_err-kids t c =
     let pair = pair_of c.args.op c.args.diagrams.now.store c.args.level c.args.x c.args.y c.requires.depth c.requires.joinable in
-    let next = next_of pair c.loop-i.invariant c.count-i-end.ensures.value c.loop-i-test.true c.node_at-left.ensures.value c.node_at-right.ensures.value c.raise-d.ensures c.raise-e.ensures in
+    let next = next_of pair c.loop-i.invariant.2 c.count-count.ensures.value c.next.new.self c.in-Some.is c.next.ensures.steps c.loop-i.invariant.3 c.raise-d.ensures c.raise-e.ensures in
     let got = c.in_err-kids.ensures in
     rw c.from_residual.ensures (join_grew next got.grew, join_stuck next got.grew got.built)
 
 pub join_kids-loop-i-preserved : goal.join_kids-loop-i-preserved
 join_kids-loop-i-preserved t c =
     let pair = pair_of c.args.op c.args.diagrams.now.store c.args.level c.args.x c.args.y c.requires.depth c.requires.joinable in
-    let next = next_of pair c.loop-i.invariant c.count-i-end.ensures.value c.loop-i-test.true c.node_at-left.ensures.value c.node_at-right.ensures.value c.raise-d.ensures c.raise-e.ensures in
+    let next = next_of pair c.loop-i.invariant.2 c.count-count.ensures.value c.next.new.self c.in-Some.is c.next.ensures.steps c.loop-i.invariant.3 c.raise-d.ensures c.raise-e.ensures in
+    let turn = two pair c.loop-i.invariant.2 c.count-count.ensures.value c.next.new.self c.in-Some.is c.next.ensures.steps in
     let got = c.in_ok-kids.ensures in
-    join_more next got.grew c.in_ok-kids.field-0 got.built
+    (search rules, search rules, turn.ahead, rw turn.count (join_more next got.grew c.in_ok-kids.field-0 got.built))
+
+pub join_kids-returns : goal.join_kids-returns
+join_kids-returns t c =
+    rw (← two_all (pair_of c.args.op c.args.diagrams.now.store c.args.level c.args.x c.args.y c.requires.depth c.requires.joinable) c.loop-i.invariant.2 c.count-count.ensures.value c.next.new.self c.in-None.is c.next.ensures.steps) c.loop-i.invariant.3

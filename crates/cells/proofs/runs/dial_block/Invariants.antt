@@ -3,4 +3,4 @@ use Rattle.cells.specs.Writes.{Runs}
 use Rattle.cells.proofs.runs.dial_block.Given as goal
 
 abbrev pub invariant-loop-d : goal.invariant-loop-d
-invariant-loop-d l = Runs l.d l.strides.stride l.base (λ d _. get_or l.entries d None) l.initial.cells l.cells
+invariant-loop-d l = Runs l.d l.stride 0 (λ d _. get_or l.entries d None) l.initial.block l.block

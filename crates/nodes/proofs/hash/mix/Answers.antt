@@ -1,19 +1,15 @@
-use Rattle.std.proofs.Common.{◌+◌, ◌*◌, ◌%◌, drop, None, sym, ap, ◌∙◌, rules}
-use Rattle.std.proofs.lemmas.List.{at_drop_more, at_drop_all}
-use Rattle.nodes.specs.Hashes.{mixed}
+use Rattle.std.proofs.Common.{◌<◌, ◌∙◌, rules}
+use Rattle.std.proofs.lemmas.Fn.{serves_by}
+use Rattle.std.proofs.lemmas.Iterator.{YieldsList-from_slice}
+use Rattle.std.proofs.lemmas.Iterator.Consumers.{fold_from_yields_List}
+use Rattle.nodes.proofs.Mixing.{step, fold_is_mixed}
 use Rattle.nodes.proofs.hash.mix.Goals as goal
 
-pub loop-e-preserved : goal.loop-e-preserved
-loop-e-preserved c =
-    let xs = c.args.edges.now in
-    let i = c.loop-e.e-index in (
-      search rules,
-      ap (λ n. mixed ((c.loop-e.h * 16777619 + n) % 4294967296) (drop (i + 1) xs)) c.code.ensures.value
-          ∙ sym (at_drop_more (mixed c.loop-e.h) xs i (record { weight = None; child = 0 }) c.loop-e-test.true)
-          ∙ c.loop-e.invariant.1,
-    )
+pub fold-requires-clause-callable : goal.fold-requires-clause-callable
+fold-requires-clause-callable c =
+    serves_by _ (λ _ q. q.1 < 4294967296) (λ xs q x v j r. search rules) _ _ _ _ c.requires (λ xs t q x u y e j. search rules)
 
 pub returns : goal.returns
 returns c =
-    sym (at_drop_all (mixed c.loop-e.h) c.args.edges.now c.loop-e.e-index c.loop-e-test.false)
-    ∙ c.loop-e.invariant.1
+    fold_from_yields_List _ step _ _ c.fold.ensures.ran (YieldsList-from_slice c.args.edges.now cc) (λ a x b q k. search rules)
+    ∙ fold_is_mixed c.args.start c.args.edges.now

@@ -1,4 +1,4 @@
--- What a diagram shelf keeps has at most one proof. Assumes nothing.
+-- What pegs keep, and two stores alike, has at most one proof. Assumes nothing.
 use Rattle.std.specs.Prelude.{List, Some, None, Option}
 use Rattle.std.specs.Coded.{×_prop, Unit-prop}
 use mathlib.Core.Bool.{Bool-set}

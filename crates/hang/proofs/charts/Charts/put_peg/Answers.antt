@@ -1,0 +1,5 @@
+use Rattle.hang.proofs.Trying.{still_held}
+use Rattle.hang.proofs.charts.Charts.put_peg.Goals as goal
+
+pub invariant_of-self : goal.invariant_of-self
+invariant_of-self g c = record { as_many = c.args.self.now.as_many; held = still_held c.args.self.now.held c.put.ensures.grew }
