@@ -6,7 +6,7 @@ use nodes::edge::Edge;
 use times::lesser;
 
 /// The least weight.
-pub(crate) fn least(edges: &[Edge]) -> Option<u64>
+pub fn least(edges: &[Edge]) -> Option<u64>
     ensures { result ≡ lowest edges.now }
 {
     let mut best = None;
@@ -31,7 +31,7 @@ fn lower(e: Edge, by: Option<u64>) -> Edge
 
 /// The edges with a time subtracted from each weight.
 // A loop: of an array's `map` a proof gets that each call keeps its contract, not what it answered.
-pub(crate) fn lower_all(kids: [Edge; 8], by: Option<u64>) -> [Edge; 8]
+pub fn lower_all(kids: [Edge; 8], by: Option<u64>) -> [Edge; 8]
     ensures { result ≡ map (lower_by by) kids }
 {
     let mut edges = kids;

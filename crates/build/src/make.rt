@@ -11,7 +11,7 @@ use nodes::node::Node;
 use table::slots::intern;
 
 /// The edge to the normalised node with these edges, which is interned; none where no slot is free for it.
-pub(crate) fn make(
+pub fn make(
     nodes: &mut [Option<Node>],
     settings: &[u8],
     level: usize,
@@ -41,12 +41,7 @@ pub(crate) fn make(
 }
 
 /// The edge to the node that has the same edge for each setting of its device.
-pub(crate) fn spread(
-    nodes: &mut [Option<Node>],
-    settings: &[u8],
-    level: usize,
-    kid: Edge,
-) -> Option<Edge>
+pub fn spread(nodes: &mut [Option<Node>], settings: &[u8], level: usize, kid: Edge) -> Option<Edge>
     requires depth { level < length settings.now }
     requires ready { Ready nodes.old settings.now }
     requires fine { Fine nodes.old (drop (level + 1) settings.now) (level + 1) kid }
