@@ -5,12 +5,12 @@ use Rattle.model.specs.Charts.{Chart, late}
 use Rattle.model.specs.Lists.{In, some}
 use Rattle.model.specs.Parts.{Part, parts}
 use Rattle.model.specs.Scenes.{size}
-use Rattle.store.specs.Stores.{none_edge, chart}
+use Rattle.store.specs.Stores.{chart}
 use Rattle.store.specs.Fillings.{Stuck}
 use Rattle.build.specs.declared.node_store.NodeStore.{NodeStore}
 use Rattle.build.specs.Builds.{Ready, Kids, Grows, Built, Stands, Partway, together, piece, spread_chart}
 use Rattle.build.specs.Grew.{nodes_in, shape_in, Grew, Begun}
-use Rattle.build.proofs.Steps.{grows_none, grows_alike, grows_then, partway_none, partway_grows, partway_stuck, partway_more, partway_kids, partway_all}
+use Rattle.build.proofs.Steps.{grows_none, grows_alike, grows_then, partway_grows, partway_stuck, partway_more, partway_kids, partway_all}
 use Rattle.build.proofs.Spreads.{spread_none, spread_early, spread_grows, spread_built}
 
 -- a store that has grown, over the shape that it was over
@@ -61,9 +61,6 @@ module _ (old mid : NodeStore) (l : ℕ) (c d : Chart) (lt : l < length (shape_i
         subst (λ (e : Chart). Built (nodes_in new) (shape_in old) l e r) whole (spread_built (nodes_in old) (nodes_in mid) (nodes_in new) (shape_in old) l c old.ready lt long g.grows kid is r here)
 
 -- the kids of a node are built one by one, and then the node
-
-pub begun_none : (s : NodeStore) (l : ℕ) (c : Chart) (kids : List Edge) → length kids ≡ 8 → ((k : ℕ) → get_or kids k none_edge ≡ none_edge) → Begun s s l c 0 kids
-begun_none s l c kids n h = record { same = refl; way = partway_none (nodes_in s) (shape_in s) l c kids (grows_none (nodes_in s) (shape_in s) l c s.ready) n h }
 
 module _ (old mid new : NodeStore) (l : ℕ) (c : Chart) (i : ℕ) (kids : List Edge) (lt : l < length (shape_in old)) (b : Begun old mid l c i kids) (d : Chart) where
   pub grew_begun : Grew old mid l c
