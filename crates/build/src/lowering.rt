@@ -3,17 +3,12 @@ ghost use Rattle.store.specs.Stores.{lowest};
 ghost use Rattle.build.specs.Builds.{lower_by};
 
 use nodes::edge::Edge;
-use times::lesser;
 
 /// The least weight.
 pub fn least(edges: &[Edge]) -> Option<u64>
     ensures { result ≡ lowest edges.now }
 {
-    let mut best = None;
-    for e in edges {
-        best = lesser(best, e.weight);
-    }
-    best
+    edges.iter().filter_map(|e| e.weight).min()
 }
 
 /// An edge with a time subtracted from its weight.
