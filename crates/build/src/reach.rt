@@ -6,7 +6,7 @@ ghost use Rattle.build.specs.Builds.{raised};
 use nodes::edge::{Edge, NEVER};
 use nodes::node::Node;
 use table::slots::taken;
-use times::{greater, plus};
+use times::plus;
 
 /// A node without times.
 const NO_NODE: Node = Node {
@@ -49,11 +49,10 @@ pub fn highest(nodes: &[Option<Node>], settings: &[u8], level: usize, edges: &[E
     requires timely { late (stores.highest nodes.now (drop level settings.now) edges.now) ≡ false }
     ensures { result ≡ stores.highest nodes.now (drop level settings.now) edges.now }
 {
-    let mut best = None;
-    for e in edges {
-        best = greater(best, reach(nodes, settings, level, *e));
-    }
-    best
+    edges
+        .iter()
+        .filter_map(|e| reach(nodes, settings, level, *e))
+        .max()
 }
 
 /// An edge whose times are all later.
