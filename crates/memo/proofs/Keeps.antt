@@ -12,7 +12,6 @@ use Rattle.model.specs.Charts.{Chart}
 use Rattle.model.specs.Scenes.{Shape}
 use Rattle.store.specs.Stores.{chart, Fine, Store}
 use Rattle.store.proofs.Grows.{fine_kept, chart_kept}
-use Rattle.build.specs.Builds.{Stands}
 use Rattle.build.specs.Grew.{nodes_in, shape_in, Grew}
 use Rattle.build.specs.declared.node_store.NodeStore.{NodeStore}
 use Rattle.memo.specs.Operations.{result_chart}
