@@ -11,6 +11,7 @@ use nodes::remembered::{Key, Remembered};
 use std::mem::swap;
 use table::slots::clear;
 
+// The work is on slices, whose contracts speak of lists; the methods lend the slices.
 impl Diagrams {
     /// The diagrams of a store; nothing is remembered yet.
     pub fn of(store: NodeStore, mut memo: Vec<Option<Remembered>>) -> Diagrams
