@@ -78,6 +78,10 @@ pub raised_chart : (nodes : List (Option Node)) (ns : Shape) (w : Time) (e : Edg
 raised_chart nodes [] w e = refl
 raised_chart nodes (n ∷ ns) w e = later_later w e.weight (flat_map (chart nodes ns) (take n (node_at nodes e.child).edges))
 
+-- an edge without a weight is one raised by never
+pub never_chart : (nodes : List (Option Node)) (ns : Shape) (e : Edge) → e.weight ≡ None → chart nodes ns e ≡ later None (chart nodes ns e)
+never_chart nodes ns e none = ap (chart nodes ns) (λ i. record { weight = none i; child = e.child }) ∙ sym (raised_chart nodes ns None e)
+
 -- the same child with another time
 pub moved_fine : (nodes : List (Option Node)) (ns : Shape) (l w v : ℕ) (e : Edge) → e.weight ≡ Some w → Fine nodes ns l e → Fine nodes ns l (record { weight = Some v; child = e.child })
 moved_fine nodes [] l w v e h f = f

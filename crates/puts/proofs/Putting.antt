@@ -27,7 +27,7 @@ use Rattle.build.specs.Grew.{nodes_in, shape_in, Grew, Begun}
 use Rattle.build.proofs.Steps.{stuck_wider}
 use Rattle.build.proofs.Grown.{grew_alike, grew_next, stuck_next, begun_next, begun_makeable, grew_made, built_made}
 use Rattle.build.proofs.Spreads.{piece_at, made_long}
-use Rattle.build.proofs.Sides.{raised_chart, piece_timely, earlier_timely, moved_fine, from_zero, raise_timely, raise_stands, side_formed, side_chart, side_fine, side_piece, side_kid_timely, side_timely}
+use Rattle.build.proofs.Sides.{never_chart, piece_timely, earlier_timely, moved_fine, from_zero, raise_timely, raise_stands, side_formed, side_chart, side_fine, side_piece, side_kid_timely, side_timely}
 use Rattle.memo.specs.Results.{Right}
 use Rattle.puts.specs.Puts.{goal}
 
@@ -44,7 +44,7 @@ pub put_skipped : (nodes : List (Option Node)) (shape : Shape) → Store nodes s
 put_skipped nodes shape store l v d e none f =
     let ns = drop l shape in
     let c = chart nodes ns e in
-    let is : c ≡ later None c = ap (chart nodes ns) (λ i. record { weight = none i; child = e.child }) ∙ sym (raised_chart nodes ns None e) in
+    let is : c ≡ later None c = never_chart nodes ns e none in
     (f, is ∙ sym (put_never ns (v - l) d c (knows nodes shape store ns l e refl f).long) ∙ ap (put_chart ns (v - l) d) (sym is))
 
 raised_zero : (e : Edge) → raised (Some 0) e ≡ e
