@@ -7,7 +7,6 @@ use Rattle.model.specs.Charts.{Time, at, plus, late}
 use Rattle.model.specs.Lists.{some}
 use Rattle.model.specs.Scenes.{Shape, Scene, SceneOf, size, rank}
 use Rattle.model.proofs.Ranks.{rank_less, scene_drop, scene_length, setting_less}
-use Rattle.parts.specs.Shifts.{later}
 use Rattle.parts.proofs.Tabulated.{at_piece, get_or_later}
 use Rattle.store.specs.Stores.{none_edge, node_at, chart, Fine}
 use Rattle.build.specs.Builds.{raised, piece, Ready}
