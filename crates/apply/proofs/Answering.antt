@@ -12,7 +12,7 @@ use Rattle.parts.specs.Shifts.{later}
 use Rattle.store.specs.Stores.{chart, Fine, Store}
 use Rattle.store.proofs.Canon.{knows}
 use Rattle.build.specs.Builds.{Stands}
-use Rattle.build.proofs.Sides.{raised_chart, moved_fine, from_zero}
+use Rattle.build.proofs.Sides.{never_chart, moved_fine, from_zero}
 use Rattle.memo.specs.Operations.{entry}
 use Rattle.apply.specs.Joins.{goal}
 use Rattle.apply.specs.Splits.{split_of, skipped}
@@ -22,7 +22,7 @@ use Rattle.apply.proofs.Zips.{entry_comm, cheaper_never, sum_never, split_base, 
 -- where the one has no time
 module _ (nodes : List (Option Node)) (shape : Shape) (l : ℕ) (a b : Edge) (none : a.weight ≡ None) where
   never : chart nodes (drop l shape) a ≡ later None (chart nodes (drop l shape) a)
-  never = ap (chart nodes (drop l shape)) (λ i. record { weight = none i; child = a.child }) ∙ sym (raised_chart nodes (drop l shape) None a)
+  never = never_chart nodes (drop l shape) a none
 
   skipped_chart : (op : Op) → length (chart nodes (drop l shape) a) ≡ length (chart nodes (drop l shape) b) → chart nodes (drop l shape) (skipped op a b) ≡ goal op nodes shape l a b
   skipped_chart Cheaper n = sym (ap (λ c. zipped lesser c (chart nodes (drop l shape) b)) never ∙ cheaper_never (chart nodes (drop l shape) a) (chart nodes (drop l shape) b) n)

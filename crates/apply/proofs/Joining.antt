@@ -22,10 +22,10 @@ use Rattle.parts.proofs.Pieces.{parts_later}
 use Rattle.store.specs.Stores.{none_edge, node_at, chart, body, Fine, Store}
 use Rattle.store.specs.Fillings.{Stuck}
 use Rattle.store.proofs.Grows.{chart_kept, fine_kept}
-use Rattle.build.specs.Builds.{raised, piece, Kids, Built, Stands, together}
+use Rattle.build.specs.Builds.{raised, piece, Makeable, Built, Stands, together}
 use Rattle.build.specs.Grew.{nodes_in, shape_in, Grew, Begun}
 use Rattle.build.specs.declared.node_store.NodeStore.{NodeStore}
-use Rattle.build.proofs.Grown.{grew_alike, grew_next, stuck_next, begun_next, begun_kids, begun_timely, grew_made, built_made}
+use Rattle.build.proofs.Grown.{grew_alike, grew_next, stuck_next, begun_next, begun_makeable, grew_made, built_made}
 use Rattle.build.proofs.Steps.{stuck_wider}
 use Rattle.build.proofs.Sides.{piece_timely, lower_timely, earlier_timely, moved_fine, from_zero, raise_timely, raise_stands, side_formed, side_chart, side_long, side_fine, side_piece, side_kid_timely, side_timely}
 use Rattle.memo.specs.Operations.{entry}
@@ -213,11 +213,8 @@ module _ {op : Op} {old : NodeStore} {l : ℕ} {x y : TimedEdge} (pair : Pair op
 
   -- the node
   module _ {mid : NodeStore} {kids : List Edge} (way : Begun old mid l aim (get_or shape l 0) kids) where
-    pub kids_ready : Kids (nodes_in mid) (get_or (shape_in mid) l 0) (drop (l + 1) (shape_in mid)) l kids
-    kids_ready = begun_kids old mid mid l aim (get_or shape l 0) kids lt way aim refl aim_long
-
-    pub kids_timely : some late (together (nodes_in mid) (shape_in mid) l kids) ≡ false
-    kids_timely = begun_timely old mid mid l aim (get_or shape l 0) kids lt way aim refl aim_long able.timely
+    pub kids_makeable : Makeable (nodes_in mid) (shape_in mid) l kids
+    kids_makeable = begun_makeable old mid mid l aim (get_or shape l 0) kids lt way aim refl aim_long able.timely
 
     module _ {new : NodeStore} (g : Grew mid new l (together (nodes_in mid) (shape_in mid) l kids)) where
       pub join_made : Grew old new l aim

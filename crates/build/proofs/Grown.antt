@@ -5,12 +5,12 @@ use Rattle.model.specs.Charts.{Chart, late}
 use Rattle.model.specs.Lists.{In, some}
 use Rattle.model.specs.Parts.{Part, parts}
 use Rattle.model.specs.Scenes.{size}
-use Rattle.store.specs.Stores.{none_edge, chart}
+use Rattle.store.specs.Stores.{chart}
 use Rattle.store.specs.Fillings.{Stuck}
 use Rattle.build.specs.declared.node_store.NodeStore.{NodeStore}
-use Rattle.build.specs.Builds.{Ready, Kids, Grows, Built, Stands, Partway, together, piece, spread_chart}
+use Rattle.build.specs.Builds.{Ready, Kids, Makeable, Grows, Built, Stands, Partway, together, piece, spread_chart}
 use Rattle.build.specs.Grew.{nodes_in, shape_in, Grew, Begun}
-use Rattle.build.proofs.Steps.{grows_none, grows_alike, grows_then, partway_none, partway_grows, partway_stuck, partway_more, partway_kids, partway_all}
+use Rattle.build.proofs.Steps.{grows_none, grows_alike, grows_then, partway_grows, partway_stuck, partway_more, partway_kids, partway_all}
 use Rattle.build.proofs.Spreads.{spread_none, spread_early, spread_grows, spread_built}
 
 -- a store that has grown, over the shape that it was over
@@ -62,9 +62,6 @@ module _ (old mid : NodeStore) (l : ℕ) (c d : Chart) (lt : l < length (shape_i
 
 -- the kids of a node are built one by one, and then the node
 
-pub begun_none : (s : NodeStore) (l : ℕ) (c : Chart) (kids : List Edge) → length kids ≡ 8 → ((k : ℕ) → get_or kids k none_edge ≡ none_edge) → Begun s s l c 0 kids
-begun_none s l c kids n h = record { same = refl; way = partway_none (nodes_in s) (shape_in s) l c kids (grows_none (nodes_in s) (shape_in s) l c s.ready) n h }
-
 module _ (old mid new : NodeStore) (l : ℕ) (c : Chart) (i : ℕ) (kids : List Edge) (lt : l < length (shape_in old)) (b : Begun old mid l c i kids) (d : Chart) where
   pub grew_begun : Grew old mid l c
   grew_begun = record { same = b.same; grows = b.way.grows }
@@ -96,14 +93,14 @@ module _ (old mid new : NodeStore) (l : ℕ) (c : Chart) (i : ℕ) (kids : List 
     end : Partway (nodes_in old) (nodes_in mid) (shape_in old) l c (get_or (shape_in old) l 0) kids
     end = subst (λ k. Partway (nodes_in old) (nodes_in mid) (shape_in old) l c k kids) all b.way
 
-    pub begun_kids : Kids (nodes_in mid) (get_or (shape_in mid) l 0) (drop (l + 1) (shape_in mid)) l kids
+    begun_kids : Kids (nodes_in mid) (get_or (shape_in mid) l 0) (drop (l + 1) (shape_in mid)) l kids
     begun_kids = subst (λ s. Kids (nodes_in mid) (get_or s l 0) (drop (l + 1) s) l kids) (sym b.same) (partway_kids (nodes_in old) (nodes_in mid) (shape_in old) l c kids (old.ready.few l) end)
 
-    pub begun_together : together (nodes_in mid) (shape_in mid) l kids ≡ c
+    begun_together : together (nodes_in mid) (shape_in mid) l kids ≡ c
     begun_together = ap (λ s. together (nodes_in mid) s l kids) b.same ∙ partway_all (nodes_in old) (nodes_in mid) (shape_in old) l c kids (old.ready.few l) end long
 
-    pub begun_timely : some late c ≡ false → some late (together (nodes_in mid) (shape_in mid) l kids) ≡ false
-    begun_timely h = ap (some late) begun_together ∙ h
+    pub begun_makeable : some late c ≡ false → Makeable (nodes_in mid) (shape_in mid) l kids
+    begun_makeable h = record { depth = subst (λ s. l < length s) (sym b.same) lt; kids = begun_kids; timely = ap (some late) begun_together ∙ h }
 
     pub grew_made : Grew mid new l (together (nodes_in mid) (shape_in mid) l kids) → Grew old new l c
     grew_made g = grew_then old mid new l l c c (λ p h. h) grew_begun (subst (Grew mid new l) begun_together g)

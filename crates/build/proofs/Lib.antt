@@ -1,5 +1,6 @@
--- weights lowered and raised: Weights; greatest times: Highs; the node made of some kids: Makes, Made; building kid by kid: Steps, Spreads
+-- weights lowered and raised: Weights; least weights: Lows; greatest times: Highs; the node made of some kids: Makes, Made; building kid by kid: Steps, Spreads
 pub mod Weights
+pub mod Lows
 pub mod Highs
 pub mod Makes
 pub mod Steps

@@ -1,5 +1,5 @@
 -- An edge with a time, its node and its kids, and edges that are raised. Assumes nothing.
-use Rattle.std.proofs.Common.{◌≡◌, ℕ, zero, suc, ◌+◌, ◌*◌, ◌<◌, ◌≤◌, Bool, true, false, ◌||◌, ◌⊎◌, List, [], ◌∷◌, length, get_or, take, drop, Some, None, Option, sym, refl, ap, ◌∙◌, subst, inl, inr, arith}
+use Rattle.std.proofs.Common.{◌≡◌, ℕ, zero, suc, ◌+◌, ◌*◌, ◌<◌, ◌≤◌, false, ◌⊎◌, List, [], ◌∷◌, length, get_or, take, drop, Some, None, Option, sym, refl, ap, ◌∙◌, subst, inl, inr, arith}
 use lib.ListN.{length-map}
 use Rattle.std.specs.List.{AllByRecursion, flat_map}
 use Rattle.std.proofs.lemmas.Bool.{ltb-false, le-ltb, cases_lt, or_parts, or_from}
@@ -77,6 +77,10 @@ raised_fine nodes (n ∷ ns) l v e f = record { here = f.here; deep = f.deep; lo
 pub raised_chart : (nodes : List (Option Node)) (ns : Shape) (w : Time) (e : Edge) → later w (chart nodes ns e) ≡ chart nodes ns (raised w e)
 raised_chart nodes [] w e = refl
 raised_chart nodes (n ∷ ns) w e = later_later w e.weight (flat_map (chart nodes ns) (take n (node_at nodes e.child).edges))
+
+-- an edge without a weight is one raised by never
+pub never_chart : (nodes : List (Option Node)) (ns : Shape) (e : Edge) → e.weight ≡ None → chart nodes ns e ≡ later None (chart nodes ns e)
+never_chart nodes ns e none = ap (chart nodes ns) (λ i. record { weight = none i; child = e.child }) ∙ sym (raised_chart nodes ns None e)
 
 -- the same child with another time
 pub moved_fine : (nodes : List (Option Node)) (ns : Shape) (l w v : ℕ) (e : Edge) → e.weight ≡ Some w → Fine nodes ns l e → Fine nodes ns l (record { weight = Some v; child = e.child })

@@ -66,9 +66,6 @@ stuck_wider nodes shape l m c d sub n = record { taken = n.taken; part = n.part;
 
 -- the loop
 
-pub partway_none : (nodes : List (Option Node)) (shape : Shape) (l : ℕ) (c : Chart) (kids : List Edge) → Grows nodes nodes shape l c → length kids ≡ 8 → ((k : ℕ) → get_or kids k none_edge ≡ none_edge) → Partway nodes nodes shape l c 0 kids
-partway_none nodes shape l c kids g n h = record { grows = g; eight = n; rest = λ k _. h k; done = λ k lt. absurd (omega arith) }
-
 module _ (old mid new : List (Option Node)) (shape : Shape) (l : ℕ) (c : Chart) (i : ℕ) (kids : List Edge) (before : Store old shape) (lt : l < length shape) (il : i < get_or shape l 0) (w : Partway old mid shape l c i kids) (g : Grows mid new shape (l + 1) (piece shape l c i)) where
   pub partway_grows : Grows old new shape l c
   partway_grows = grows_then old mid new shape l (l + 1) c (piece shape l c i) before (λ p h. piece_parts shape l c i p lt il h) w.grows g

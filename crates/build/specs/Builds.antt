@@ -1,11 +1,12 @@
 -- What an operation on a store builds. Assumes nothing.
-use Rattle.std.specs.Prelude.{◌≡◌, ℕ, ◌+◌, ◌-◌, ◌%◌, ◌<◌, ◌≤◌, List, [], map, length, take, drop, replicate, Some, None, Option, slice_index, slice_index_or}
+use Rattle.std.specs.Prelude.{◌≡◌, ℕ, ◌+◌, ◌-◌, ◌%◌, ◌<◌, ◌≤◌, false, List, [], map, length, take, drop, replicate, Some, None, Option, slice_index, slice_index_or}
 use Rattle.std.specs.List.{AllByRecursion, range_with_len, flat_map}
 use Rattle.table.specs.Tables.{Table, Kept}
 use Rattle.nodes.specs.Hashes.{mixed}
 use Rattle.nodes.specs.declared.edge.Edge.{Edge}
 use Rattle.nodes.specs.declared.node.Node.{Node}
-use Rattle.model.specs.Charts.{Time, Chart, plus}
+use Rattle.model.specs.Charts.{Time, Chart, plus, late}
+use Rattle.model.specs.Lists.{some}
 use Rattle.model.specs.Parts.{less, pieces}
 use Rattle.model.specs.Scenes.{Shape, size}
 use Rattle.store.specs.Stores.{none_edge, lowest, highest, chart, Fine, Store}
@@ -64,6 +65,27 @@ together nodes shape l kids = flat_map (chart nodes (drop (l + 1) shape)) (take 
 -- the same chart at each setting of the device
 abbrev pub spread_chart : Shape → ℕ → Chart → Chart
 spread_chart shape l c = flat_map (λ _. c) (range_with_len 0 (slice_index shape l))
+
+-- the chart of the kid at each setting of the device
+abbrev pub throughout : List (Option Node) → Shape → ℕ → Edge → Chart
+throughout nodes shape l kid = spread_chart shape l (chart nodes (drop (l + 1) shape) kid)
+
+-- a node may be made of these edges: its level has a device, they are its kids, and no time of theirs is late
+pub record Makeable (nodes : List (Option Node)) (shape : Shape) (l : ℕ) (edges : List Edge) : Type 0 where
+  pub depth : l < length shape
+  pub kids : Kids nodes (slice_index shape l) (drop (l + 1) shape) l edges
+  pub timely : some late (together nodes shape l edges) ≡ false
+
+-- an edge may be spread: the level has a device, the edge is fine below it, and no time of its is late
+pub record Spreadable (nodes : List (Option Node)) (shape : Shape) (l : ℕ) (kid : Edge) : Type 0 where
+  pub depth : l < length shape
+  pub fine : Fine nodes (drop (l + 1) shape) (l + 1) kid
+  pub timely : some late (chart nodes (drop (l + 1) shape) kid) ≡ false
+
+-- the store has grown by parts of the chart only, and the answer is an edge with it, or there was no room
+pub record Made (old new : List (Option Node)) (shape : Shape) (l : ℕ) (c : Chart) (e : Option Edge) : Type 0 where
+  pub grows : Grows old new shape l c
+  pub built : Built new shape l c e
 
 -- the piece of a chart at a setting of the device
 abbrev pub piece : Shape → ℕ → Chart → ℕ → Chart

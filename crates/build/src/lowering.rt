@@ -3,17 +3,12 @@ ghost use Rattle.store.specs.Stores.{lowest};
 ghost use Rattle.build.specs.Builds.{lower_by};
 
 use nodes::edge::Edge;
-use times::lesser;
 
 /// The least weight.
-pub(crate) fn least(edges: &[Edge]) -> Option<u64>
+pub fn least(edges: &[Edge]) -> Option<u64>
     ensures { result ≡ lowest edges.now }
 {
-    let mut best = None;
-    for e in edges {
-        best = lesser(best, e.weight);
-    }
-    best
+    edges.iter().filter_map(|e| e.weight).min()
 }
 
 /// An edge with a time subtracted from its weight.
@@ -31,7 +26,7 @@ fn lower(e: Edge, by: Option<u64>) -> Edge
 
 /// The edges with a time subtracted from each weight.
 // A loop: of an array's `map` a proof gets that each call keeps its contract, not what it answered.
-pub(crate) fn lower_all(kids: [Edge; 8], by: Option<u64>) -> [Edge; 8]
+pub fn lower_all(kids: [Edge; 8], by: Option<u64>) -> [Edge; 8]
     ensures { result ≡ map (lower_by by) kids }
 {
     let mut edges = kids;

@@ -1,8 +1,4 @@
-ghost use Rattle.std.specs.Prelude.{◌≡◌, ◌+◌, ◌<◌, false, length, drop, slice_index};
-ghost use Rattle.model.specs.Charts.{late};
-ghost use Rattle.model.specs.Lists.{some};
-ghost use Rattle.store.specs.Stores.{chart, Fine};
-ghost use Rattle.build.specs.Builds.{Ready, Kids, Grows, Built, together, spread_chart};
+ghost use Rattle.build.specs.Builds.{Ready, Makeable, Spreadable, Made, together, throughout};
 
 use crate::lowering::{least, lower_all};
 use crate::reach::highest;
@@ -11,18 +7,15 @@ use nodes::node::Node;
 use table::slots::intern;
 
 /// The edge to the normalised node with these edges, which is interned; none where no slot is free for it.
-pub(crate) fn make(
+pub fn make(
     nodes: &mut [Option<Node>],
     settings: &[u8],
     level: usize,
     kids: [Edge; 8],
 ) -> Option<Edge>
-    requires depth { level < length settings.now }
     requires ready { Ready nodes.old settings.now }
-    requires kids { Kids nodes.old (slice_index settings.now level) (drop (level + 1) settings.now) level kids }
-    requires timely { some late (together nodes.old settings.now level kids) ≡ false }
-    ensures grows { Grows nodes.old nodes.new settings.now level (together nodes.old settings.now level kids) }
-    ensures built { Built nodes.new settings.now level (together nodes.old settings.now level kids) result }
+    requires makeable { Makeable nodes.old settings.now level kids }
+    ensures { Made nodes.old nodes.new settings.now level (together nodes.old settings.now level kids) result }
 {
     let low = least(&kids);
     let edges = lower_all(kids, low);
@@ -41,18 +34,10 @@ pub(crate) fn make(
 }
 
 /// The edge to the node that has the same edge for each setting of its device.
-pub(crate) fn spread(
-    nodes: &mut [Option<Node>],
-    settings: &[u8],
-    level: usize,
-    kid: Edge,
-) -> Option<Edge>
-    requires depth { level < length settings.now }
+pub fn spread(nodes: &mut [Option<Node>], settings: &[u8], level: usize, kid: Edge) -> Option<Edge>
     requires ready { Ready nodes.old settings.now }
-    requires fine { Fine nodes.old (drop (level + 1) settings.now) (level + 1) kid }
-    requires timely { some late (chart nodes.old (drop (level + 1) settings.now) kid) ≡ false }
-    ensures grows { Grows nodes.old nodes.new settings.now level (spread_chart settings.now level (chart nodes.old (drop (level + 1) settings.now) kid)) }
-    ensures built { Built nodes.new settings.now level (spread_chart settings.now level (chart nodes.old (drop (level + 1) settings.now) kid)) result }
+    requires spreadable { Spreadable nodes.old settings.now level kid }
+    ensures { Made nodes.old nodes.new settings.now level (throughout nodes.old settings.now level kid) result }
 {
     let count = usize::from(settings[level]);
     let mut kids = [NEVER; 8];

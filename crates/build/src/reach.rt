@@ -6,7 +6,7 @@ ghost use Rattle.build.specs.Builds.{raised};
 use nodes::edge::{Edge, NEVER};
 use nodes::node::Node;
 use table::slots::taken;
-use times::{greater, plus};
+use times::plus;
 
 /// A node without times.
 const NO_NODE: Node = Node {
@@ -16,7 +16,7 @@ const NO_NODE: Node = Node {
 };
 
 /// The node in a slot; a free slot stands for a node without times.
-pub(crate) fn node_at(nodes: &[Option<Node>], i: u16) -> Node
+pub fn node_at(nodes: &[Option<Node>], i: u16) -> Node
     ensures { result ≡ stores.node_at nodes.now i }
 {
     taken(nodes, usize::from(i)).unwrap_or(NO_NODE)
@@ -44,21 +44,15 @@ pub fn reach(nodes: &[Option<Node>], settings: &[u8], level: usize, e: Edge) -> 
 }
 
 /// The greatest time of some edges that lead to a level.
-pub(crate) fn highest(
-    nodes: &[Option<Node>],
-    settings: &[u8],
-    level: usize,
-    edges: &[Edge],
-) -> Option<u64>
+pub fn highest(nodes: &[Option<Node>], settings: &[u8], level: usize, edges: &[Edge]) -> Option<u64>
     requires depth { level ≤ length settings.now }
     requires timely { late (stores.highest nodes.now (drop level settings.now) edges.now) ≡ false }
     ensures { result ≡ stores.highest nodes.now (drop level settings.now) edges.now }
 {
-    let mut best = None;
-    for e in edges {
-        best = greater(best, reach(nodes, settings, level, *e));
-    }
-    best
+    edges
+        .iter()
+        .filter_map(|e| reach(nodes, settings, level, *e))
+        .max()
 }
 
 /// An edge whose times are all later.

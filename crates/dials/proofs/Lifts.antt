@@ -10,7 +10,7 @@ use Rattle.model.specs.Scenes.{Shape, size}
 use Rattle.store.specs.Stores.{chart, Fine}
 use Rattle.store.specs.Fillings.{Stuck}
 use Rattle.build.specs.declared.node_store.NodeStore.{NodeStore}
-use Rattle.build.specs.Builds.{Built, Stands, spread_chart}
+use Rattle.build.specs.Builds.{Spreadable, Built, Stands, spread_chart}
 use Rattle.build.specs.Grew.{nodes_in, shape_in, Grew}
 use Rattle.build.proofs.Steps.{piece_parts, stuck_wider}
 use Rattle.build.proofs.Spreads.{piece_at, made_long, some_joined}
@@ -36,8 +36,12 @@ module _ {old mid : NodeStore} {l : ℕ} {c d : Chart} (s : Turn old mid l c d) 
   turn_none r none t = subst (Built (nodes_in mid) (shape_in old) l d) (sym none) (stuck_spread old mid l c d s.depth s.long s.is s.grew t)
 
   module _ (kid : Edge) (st : Stands (nodes_in mid) (shape_in old) (l + 1) c kid) where
-    pub turn_timely : some late (chart (nodes_in mid) (drop (l + 1) (shape_in mid)) kid) ≡ false
-    turn_timely = ap (λ t. some late (chart (nodes_in mid) (drop (l + 1) t) kid)) s.grew.same ∙ ap (some late) st.1 ∙ s.timely
+    pub turn_spreadable : Spreadable (nodes_in mid) (shape_in mid) l kid
+    turn_spreadable = record {
+      depth = subst (λ t. l < length t) (sym s.grew.same) s.depth;
+      fine = subst (λ t. Fine (nodes_in mid) (drop (l + 1) t) (l + 1) kid) (sym s.grew.same) st.0;
+      timely = ap (λ t. some late (chart (nodes_in mid) (drop (l + 1) t) kid)) s.grew.same ∙ ap (some late) st.1 ∙ s.timely;
+    }
 
     pub turn_grew : (new : NodeStore) → Grew mid new l (spread_chart (shape_in mid) l (chart (nodes_in mid) (drop (l + 1) (shape_in mid)) kid)) → Grew old new l d
     turn_grew new g = grew_spread old mid l c d s.depth s.long s.is s.grew new kid st.1 g

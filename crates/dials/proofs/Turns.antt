@@ -14,10 +14,10 @@ use Rattle.parts.proofs.Tabulated.{tabulated_split, dialled_here, dialled_below}
 use Rattle.store.specs.Stores.{chart, Fine}
 use Rattle.store.specs.Fillings.{Stuck}
 use Rattle.build.specs.declared.node_store.NodeStore.{NodeStore}
-use Rattle.build.specs.Builds.{Kids, Built, Stands, together, piece, spread_chart}
+use Rattle.build.specs.Builds.{Makeable, Built, Stands, together, piece, spread_chart}
 use Rattle.build.specs.Grew.{nodes_in, shape_in, Grew, Begun}
 use Rattle.build.proofs.Spreads.{piece_at, made_long}
-use Rattle.build.proofs.Grown.{grew_next, stuck_next, begun_next, begun_kids, begun_timely, grew_made, built_made}
+use Rattle.build.proofs.Grown.{grew_next, stuck_next, begun_next, begun_makeable, grew_made, built_made}
 use Rattle.dials.specs.Flats.{flat}
 
 -- Charts with one entry
@@ -112,13 +112,10 @@ module _ {old mid : NodeStore} {l : ℕ} {es : List Time} {n i : ℕ} {kids : Li
         let shape = shape_in old in
         ap length (fan_is shape l es s.depth) ∙ made_long shape l (fanned shape l es) (λ x. flat_long (drop (l + 1) shape) (get_or es x None))
 
-    pub fan_kids : Kids (nodes_in mid) (get_or (shape_in mid) l 0) (drop (l + 1) (shape_in mid)) l kids
-    fan_kids = begun_kids old mid mid l whole i kids s.depth s.begun whole all long
-
-    pub fan_timely : some late (take (get_or (shape_in old) l 0) es) ≡ false → some late (together (nodes_in mid) (shape_in mid) l kids) ≡ false
-    fan_timely h =
+    pub fan_makeable : some late (take (get_or (shape_in old) l 0) es) ≡ false → Makeable (nodes_in mid) (shape_in mid) l kids
+    fan_makeable h =
         let z : 0 ≡ l - l = omega arith in
-        begun_timely old mid mid l whole i kids s.depth s.begun whole all long (ap (λ k. some late (dialled (drop l (shape_in old)) k es)) z ∙ dial_timely (shape_in old) l l es (omega arith) s.depth h)
+        begun_makeable old mid mid l whole i kids s.depth s.begun whole all long (ap (λ k. some late (dialled (drop l (shape_in old)) k es)) z ∙ dial_timely (shape_in old) l l es (omega arith) s.depth h)
 
     module _ (new : NodeStore) where
       pub made_grew : Grew mid new l (together (nodes_in mid) (shape_in mid) l kids) → Grew old new l whole

@@ -1,7 +1,7 @@
 -- What is remembered stays right as the store grows, and as one result is added. Assumes nothing.
-use Rattle.std.proofs.Common.{◌≡◌, ℕ, ◌⊎◌, List, drop, is_some, Some, None, Option, sym, refl, ap, ◌∙◌, subst, inl, inr}
-use Rattle.std.proofs.lemmas.Bool.{both_ways, cases_eq}
-use Rattle.table.specs.Tables.{slot, Table, Kept, Empty}
+use Rattle.std.proofs.Common.{◌≡◌, ℕ, ◌⊎◌, List, drop, Some, None, Option, sym, refl, ap, ◌∙◌, subst, inl, inr}
+use Rattle.std.proofs.lemmas.Bool.{cases_eq}
+use Rattle.table.specs.Tables.{slot, Table, Kept}
 use Rattle.table.specs.Finds.{Interned, Placed}
 use Rattle.nodes.specs.Keys.{SameKey, initial_of}
 use Rattle.nodes.specs.declared.edge.Edge.{Edge}
@@ -12,14 +12,10 @@ use Rattle.model.specs.Charts.{Chart}
 use Rattle.model.specs.Scenes.{Shape}
 use Rattle.store.specs.Stores.{chart, Fine, Store}
 use Rattle.store.proofs.Grows.{fine_kept, chart_kept}
-use Rattle.build.specs.Builds.{Stands}
 use Rattle.build.specs.Grew.{nodes_in, shape_in, Grew}
 use Rattle.build.specs.declared.node_store.NodeStore.{NodeStore}
 use Rattle.memo.specs.Operations.{result_chart}
 use Rattle.memo.specs.Results.{Recalled, Added, Right, Knows}
-
-none_some : (o : Option Remembered) (x : Remembered) → o ≡ None → o ≡ Some x → ⊥
-none_some o x p q = both_ways (is_some o) (ap is_some p) (ap is_some q)
 
 -- interning adds the entry or nothing
 pub added_by : (old new : List (Option Remembered)) (x : Remembered) (r : Option ℕ) → Interned SameKey old new x r → Added old new x
@@ -32,10 +28,6 @@ added_by old new x (Some i) h k y p = go h.1
       | inl e ↦ inr (let q : slot new k ≡ Some x = ap (slot new) e ∙ put.here in let z : y ≡ x = cc in z)
       | inr n ↦ inl (sym (put.others k n) ∙ p)
     ]
-
--- after forgetting all, what is added is all
-pub added_alone : (old mid new : List (Option Remembered)) (x : Remembered) (r : Option ℕ) → Empty mid → Interned SameKey mid new x r → Added old new x
-added_alone old mid new x r empty h k y p = elim (added_by mid new x r h k y p) [ inl q ↦ absurd (none_some (slot mid k) y (empty k) q) | inr q ↦ inr q ]
 
 module _ (old new : List (Option Node)) (kept : Kept old new) (shape : Shape) (store : Store old shape) where
   pub right_kept : (key : Key) (result : Edge) → Right old shape key result → Right new shape key result
@@ -59,10 +51,6 @@ knows_added nodes shape before after x k table added r = record {
   table = table;
   all = λ i y h. elim (added i y h) [ inl p ↦ k.all i y p | inr p ↦ subst (λ (z : Remembered). Right nodes shape z.key z.result) (sym p) r ];
 }
-
--- an empty table remembers nothing wrong
-pub knows_none : (nodes : List (Option Node)) (shape : Shape) (memo : List (Option Remembered)) → Table SameKey initial_of memo → Empty memo → Knows nodes shape memo
-knows_none nodes shape memo table empty = record { table = table; all = λ i x h. absurd (none_some (slot memo i) x (empty i) h) }
 
 -- what is recalled for a key
 pub recalled_right : (nodes : List (Option Node)) (shape : Shape) (memo : List (Option Remembered)) (key : Key) (e : Edge) → Knows nodes shape memo → Recalled memo key e → Right nodes shape key e

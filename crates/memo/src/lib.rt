@@ -2,4 +2,4 @@
 #![tactic(auto)]
 
 pub mod diagrams;
-mod results;
+pub mod results;

@@ -9,7 +9,7 @@ use table::found::Found;
 use table::slots::{clear, find, intern};
 
 /// The result that is remembered for the key, if there is one.
-pub(crate) fn recall(memo: &[Option<Remembered>], key: &Key) -> Option<Edge>
+pub fn recall(memo: &[Option<Remembered>], key: &Key) -> Option<Edge>
     requires { Table SameKey initial_of memo.now }
     ensures { MatchOption result (Unknown memo.now key.now) (Recalled memo.now key.now) }
 {
@@ -26,7 +26,7 @@ pub(crate) fn recall(memo: &[Option<Remembered>], key: &Key) -> Option<Edge>
 }
 
 /// Remembers a result. Where no slot is free, all others are forgotten.
-pub(crate) fn remember(memo: &mut [Option<Remembered>], x: Remembered)
+pub fn remember(memo: &mut [Option<Remembered>], x: Remembered)
     requires { Table SameKey initial_of memo.old }
     ensures table { Table SameKey initial_of memo.new }
     ensures added { Added memo.old memo.new x }

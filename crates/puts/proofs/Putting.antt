@@ -22,12 +22,12 @@ use Rattle.store.specs.Fillings.{Stuck}
 use Rattle.store.proofs.Canon.{knows}
 use Rattle.store.proofs.Grows.{chart_kept, fine_kept}
 use Rattle.build.specs.declared.node_store.NodeStore.{NodeStore}
-use Rattle.build.specs.Builds.{raised, piece, spread_chart, Kids, Built, together, Stands}
+use Rattle.build.specs.Builds.{raised, piece, spread_chart, Makeable, Spreadable, Built, together, Stands}
 use Rattle.build.specs.Grew.{nodes_in, shape_in, Grew, Begun}
 use Rattle.build.proofs.Steps.{stuck_wider}
-use Rattle.build.proofs.Grown.{grew_alike, grew_next, stuck_next, begun_next, begun_kids, begun_timely, grew_made, built_made}
+use Rattle.build.proofs.Grown.{grew_alike, grew_next, stuck_next, begun_next, begun_makeable, grew_made, built_made}
 use Rattle.build.proofs.Spreads.{piece_at, made_long}
-use Rattle.build.proofs.Sides.{raised_chart, piece_timely, earlier_timely, moved_fine, from_zero, raise_timely, raise_stands, side_formed, side_chart, side_fine, side_piece, side_kid_timely, side_timely}
+use Rattle.build.proofs.Sides.{never_chart, piece_timely, earlier_timely, moved_fine, from_zero, raise_timely, raise_stands, side_formed, side_chart, side_fine, side_piece, side_kid_timely, side_timely}
 use Rattle.memo.specs.Results.{Right}
 use Rattle.puts.specs.Puts.{goal}
 
@@ -44,7 +44,7 @@ pub put_skipped : (nodes : List (Option Node)) (shape : Shape) → Store nodes s
 put_skipped nodes shape store l v d e none f =
     let ns = drop l shape in
     let c = chart nodes ns e in
-    let is : c ≡ later None c = ap (chart nodes ns) (λ i. record { weight = none i; child = e.child }) ∙ sym (raised_chart nodes ns None e) in
+    let is : c ≡ later None c = never_chart nodes ns e none in
     (f, is ∙ sym (put_never ns (v - l) d c (knows nodes shape store ns l e refl f).long) ∙ ap (put_chart ns (v - l) d) (sym is))
 
 raised_zero : (e : Edge) → raised (Some 0) e ≡ e
@@ -99,11 +99,15 @@ module _ {old : NodeStore} {l v d : ℕ} {e : Edge} {w : ℕ} {x : Node} (s : Si
     there_raise = side_timely nodes shape store l lt e w x s.fine s.weight s.here k low s.timely
 
     module _ (kid : Edge) (is : kid ≡ raised (Some w) (get_or x.edges k none_edge)) where
-      pub there_fine : Fine nodes (drop (l + 1) shape) (l + 1) kid
+      there_fine : Fine nodes (drop (l + 1) shape) (l + 1) kid
       there_fine = subst (Fine nodes (drop (l + 1) shape) (l + 1)) (sym is) (side_fine nodes shape store l lt e w x s.fine s.weight s.here k low)
 
-      pub there_timely : some late (chart nodes (drop (l + 1) shape) kid) ≡ false
-      there_timely = ap (λ a. some late (chart nodes (drop (l + 1) shape) a)) is ∙ side_kid_timely nodes shape store l lt e w x s.fine s.weight s.here k low s.timely
+      pub there_spreadable : Spreadable nodes shape l kid
+      there_spreadable = record {
+        depth = lt;
+        fine = there_fine;
+        timely = ap (λ a. some late (chart nodes (drop (l + 1) shape) a)) is ∙ side_kid_timely nodes shape store l lt e w x s.fine s.weight s.here k low s.timely;
+      }
 
       pub there_is : spread_chart shape l (chart nodes (drop (l + 1) shape) kid) ≡ whole
       there_is =
@@ -240,11 +244,8 @@ module _ {old : NodeStore} {l v d : ℕ} {e : Edge} {w : ℕ} {x : Node} (s : Si
       all : i ≡ get_or shape l 0
       all = omega (arith, most, least, edges_counted)
 
-      pub put_kids : Kids (nodes_in mid) (get_or (shape_in mid) l 0) (drop (l + 1) (shape_in mid)) l kids
-      put_kids = begun_kids old mid mid l inner i kids lt p.begun inner all (inner_long p.below)
-
-      pub put_timely : some late (together (nodes_in mid) (shape_in mid) l kids) ≡ false
-      put_timely = begun_timely old mid mid l inner i kids lt p.begun inner all (inner_long p.below) inner_timely
+      pub put_makeable : Makeable (nodes_in mid) (shape_in mid) l kids
+      put_makeable = begun_makeable old mid mid l inner i kids lt p.begun inner all (inner_long p.below) inner_timely
 
       module _ {new : NodeStore} (g : Grew mid new l (together (nodes_in mid) (shape_in mid) l kids)) where
         grew_inner : Grew old new l inner

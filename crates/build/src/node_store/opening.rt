@@ -1,6 +1,7 @@
 ghost use Rattle.std.specs.Prelude.{◌≡◌, ℕ, ◌<◌, ◌≤◌, length, slice_index, vec_len};
 ghost use Rattle.table.specs.Tables.{Empty};
 ghost use Rattle.lists.specs.Shorts.{listed};
+ghost use Rattle.build.specs.Builds.{Ready};
 ghost use Rattle.build.specs.Grew.{nodes_in, shape_in};
 
 use crate::node_store::NodeStore;
@@ -20,6 +21,15 @@ impl NodeStore {
         ensures shape { shape_in result ≡ listed settings }
     {
         clear(nodes.as_mut_slice());
+        NodeStore::with(settings, nodes)
+    }
+
+    /// The store of the nodes that these slots hold.
+    pub fn with(settings: Short<u8, MOST_DEVICES>, nodes: Vec<Option<Node>>) -> NodeStore
+        requires { Ready nodes.items (listed settings) }
+        ensures nodes { nodes_in result ≡ nodes.items }
+        ensures shape { shape_in result ≡ listed settings }
+    {
         NodeStore { settings, nodes }
     }
 

@@ -5,7 +5,7 @@ use Rattle.model.specs.Scenes.{size}
 use Rattle.build.specs.Grew.{nodes_in, shape_in}
 use Rattle.build.proofs.Grown.{grew_none}
 use Rattle.dials.specs.Flats.{lifted}
-use Rattle.dials.proofs.Lifts.{Turn, lifted_long, lifted_timely, turn_early, turn_none, turn_timely, turn_grew, turn_built}
+use Rattle.dials.proofs.Lifts.{Turn, lifted_long, lifted_timely, turn_early, turn_none, turn_spreadable, turn_grew, turn_built}
 use Rattle.dials.proofs.+lift.Goals.{After-lift}
 use Rattle.dials.proofs.+lift.Goals as goal
 
@@ -48,8 +48,8 @@ returns-in_err-kid-clause-grew t c = turn_early (turn t (goal.at.returns-in_err-
 pub returns-in_err-kid-clause-built : goal.returns-in_err-kid-clause-built
 returns-in_err-kid-clause-built t c = turn_none (turn t (goal.at.returns-in_err-kid-clause-built t c).After-lift) c.from_residual.result c.from_residual.ensures c.in_err-kid.ensures.built
 
-pub spread-requires-clause-timely : goal.spread-requires-clause-timely
-spread-requires-clause-timely t c = turn_timely (turn t (goal.at.spread-requires-clause-timely t c).After-lift) c.in_ok-kid.kid c.in_ok-kid.ensures.built
+pub spread-requires : goal.spread-requires
+spread-requires t c = turn_spreadable (turn t (goal.at.spread-requires t c).After-lift) c.in_ok-kid.kid c.in_ok-kid.ensures.built
 
 pub returns-clause-grew : goal.returns-clause-grew
 returns-clause-grew t c = turn_grew (turn t (goal.at.returns-clause-grew t c).After-lift) c.in_ok-kid.kid c.in_ok-kid.ensures.built c.spread.new.self c.spread.ensures.grew

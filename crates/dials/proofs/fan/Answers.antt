@@ -1,4 +1,4 @@
-use Rattle.dials.proofs.Turns.{Fan, fan_grew, fan_none, fan_more, fan_kids, fan_timely, made_grew, made_built}
+use Rattle.dials.proofs.Turns.{Fan, fan_grew, fan_none, fan_more, fan_makeable, made_grew, made_built}
 use Rattle.dials.proofs.fan.Goals.{At-loop-i}
 use Rattle.dials.proofs.fan.Goals as goal
 
@@ -14,11 +14,8 @@ returns-in_err-kids-clause-built c = fan_none (kids (goal.at.returns-in_err-kids
 pub loop-i-preserved : goal.loop-i-preserved
 loop-i-preserved c = fan_more (kids (goal.at.loop-i-preserved c).At-loop-i) c.constant.new.store c.loop-i-test.true c.constant.ensures.grew c.in_ok-kids.field-0 c.in_ok-kids.ensures.built
 
-pub make-requires-clause-kids : goal.make-requires-clause-kids
-make-requires-clause-kids c = fan_kids (kids (goal.at.make-requires-clause-kids c).At-loop-i) c.loop-i.auto.i-end c.loop-i-test.false
-
-pub make-requires-clause-timely : goal.make-requires-clause-timely
-make-requires-clause-timely c = fan_timely (kids (goal.at.make-requires-clause-timely c).At-loop-i) c.loop-i.auto.i-end c.loop-i-test.false c.requires.timely
+pub make-requires : goal.make-requires
+make-requires c = fan_makeable (kids (goal.at.make-requires c).At-loop-i) c.loop-i.auto.i-end c.loop-i-test.false c.requires.timely
 
 pub returns-clause-grew : goal.returns-clause-grew
 returns-clause-grew c = made_grew (kids (goal.at.returns-clause-grew c).At-loop-i) c.loop-i.auto.i-end c.loop-i-test.false c.make.new.self c.make.ensures.grew

@@ -1,7 +1,7 @@
 ghost use Rattle.std.specs.Prelude.{◌≡◌, MatchOption, IfSome};
 ghost use Rattle.table.specs.Tables.{Empty};
 ghost use Rattle.build.specs.Grew.{nodes_in, shape_in};
-ghost use Rattle.memo.specs.Results.{Unknown, Recalled, Added, Right};
+ghost use Rattle.memo.specs.Results.{Unknown, Recalled, Added, Knows, Right};
 
 use crate::diagrams::Diagrams;
 use crate::results::{recall, remember};
@@ -11,6 +11,7 @@ use nodes::remembered::{Key, Remembered};
 use std::mem::swap;
 use table::slots::clear;
 
+// The work is on slices, whose contracts speak of lists; the methods lend the slices.
 impl Diagrams {
     /// The diagrams of a store; nothing is remembered yet.
     pub fn of(store: NodeStore, mut memo: Vec<Option<Remembered>>) -> Diagrams
@@ -18,6 +19,15 @@ impl Diagrams {
         ensures empty { Empty result.memo.items }
     {
         clear(memo.as_mut_slice());
+        Diagrams::with(store, memo)
+    }
+
+    /// The diagrams of a store, with the results that these slots hold.
+    pub fn with(store: NodeStore, memo: Vec<Option<Remembered>>) -> Diagrams
+        requires { Knows (nodes_in store) (shape_in store) memo.items }
+        ensures store { result.store ≡ store }
+        ensures memo { result.memo ≡ memo }
+    {
         Diagrams { store, memo }
     }
 

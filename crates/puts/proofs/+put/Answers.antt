@@ -4,7 +4,7 @@ use Rattle.build.specs.Builds.{Built}
 use Rattle.build.specs.Grew.{nodes_in, shape_in, Grew}
 use Rattle.build.specs.declared.node_store.NodeStore.{NodeStore}
 use Rattle.puts.specs.Puts as puts
-use Rattle.puts.proofs.Putting.{Side, Way, put_skipped, there_raise, there_fine, there_timely, there_is, known_timely, known_stands, next_fine, next_timely, put_grew, put_none, put_more, put_kids, put_timely, made_grew, made_none, made_timely, made_right, made_stands}
+use Rattle.puts.proofs.Putting.{Side, Way, put_skipped, there_raise, there_spreadable, there_is, known_timely, known_stands, next_fine, next_timely, put_grew, put_none, put_more, put_makeable, made_grew, made_none, made_timely, made_right, made_stands}
 use Rattle.puts.proofs.+put.Goals.{After-from, At-loop-i}
 use Rattle.puts.proofs.+put.Goals as goal
 
@@ -36,11 +36,8 @@ returns-in_default-clause-built t c =
 pub raise-there-requires : goal.raise-there-requires
 raise-there-requires t c = there_raise (side t (goal.at.raise-there-requires t c).After-from) (c.if-level-from.true ∙ c.from.ensures) c.from-then-level-from.result c.from-then-level-from.ensures
 
-pub spread-requires-clause-fine : goal.spread-requires-clause-fine
-spread-requires-clause-fine t c = there_fine (side t (goal.at.spread-requires-clause-fine t c).After-from) (c.if-level-from.true ∙ c.from.ensures) c.from-then-level-from.result c.from-then-level-from.ensures c.raise-there.result c.raise-there.ensures
-
-pub spread-requires-clause-timely : goal.spread-requires-clause-timely
-spread-requires-clause-timely t c = there_timely (side t (goal.at.spread-requires-clause-timely t c).After-from) (c.if-level-from.true ∙ c.from.ensures) c.from-then-level-from.result c.from-then-level-from.ensures c.raise-there.result c.raise-there.ensures
+pub spread-requires : goal.spread-requires
+spread-requires t c = there_spreadable (side t (goal.at.spread-requires t c).After-from) (c.if-level-from.true ∙ c.from.ensures) c.from-then-level-from.result c.from-then-level-from.ensures c.raise-there.result c.raise-there.ensures
 
 pub returns-then-level-from : goal.returns-then-level-from
 returns-then-level-from t c =
@@ -104,17 +101,11 @@ loop-i-preserved t c =
 
 -- and made of them
 
-pub make-requires-clause-kids : goal.make-requires-clause-kids
-make-requires-clause-kids t c =
-    let s = side t (goal.at.make-requires-clause-kids t c).After-from in
-    let p = way t (goal.at.make-requires-clause-kids t c).At-loop-i in
-    put_kids s p c.loop-i.auto.i-end c.loop-i-test.false
-
-pub make-requires-clause-timely : goal.make-requires-clause-timely
-make-requires-clause-timely t c =
-    let s = side t (goal.at.make-requires-clause-timely t c).After-from in
-    let p = way t (goal.at.make-requires-clause-timely t c).At-loop-i in
-    put_timely s p c.loop-i.auto.i-end c.loop-i-test.false
+pub make-requires : goal.make-requires
+make-requires t c =
+    let s = side t (goal.at.make-requires t c).After-from in
+    let p = way t (goal.at.make-requires t c).At-loop-i in
+    put_makeable s p c.loop-i.auto.i-end c.loop-i-test.false
 
 pub returns-in_err-made : goal.returns-in_err-made
 returns-in_err-made t c =

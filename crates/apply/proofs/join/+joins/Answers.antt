@@ -6,7 +6,7 @@ use Rattle.build.proofs.Grown.{ready_in}
 use Rattle.build.proofs.Sides.{weight_timely}
 use Rattle.memo.specs.Results.{Right}
 use Rattle.apply.proofs.Answering.{answer_left, answer_right, answer_leaf, answer_same}
-use Rattle.apply.proofs.Joining.{sides_of, pair_of, two, two_below, two_left, two_right, two_all, next_of, rest_joinable, rest_stuck, rest_timely, rest_stands, rest_grew, raise_left, raise_right, kid_joinable, join_grew, join_stuck, join_more, kids_ready, kids_timely, join_made, join_built, join_right}
+use Rattle.apply.proofs.Joining.{sides_of, pair_of, two, two_below, two_left, two_right, two_all, next_of, rest_joinable, rest_stuck, rest_timely, rest_stands, rest_grew, raise_left, raise_right, kid_joinable, join_grew, join_stuck, join_more, kids_makeable, join_made, join_built, join_right}
 use Rattle.apply.proofs.join.+joins.Goals as goal
 
 pub join-returns-in_default-clause-built : goal.join-returns-in_default-clause-built
@@ -66,15 +66,10 @@ join-returns t c =
     let got = c.in_ok-rest.ensures in
     record { grew = rest_grew store new sides got.grew; built = rest_stands sides (nodes_in new) (ready_in store new got.grew.same).store c.in_ok-rest.rest got.built c.raise.result c.raise.ensures }
 
-pub join_nodes-make-requires-clause-kids : goal.join_nodes-make-requires-clause-kids
-join_nodes-make-requires-clause-kids t c =
+pub join_nodes-make-requires : goal.join_nodes-make-requires
+join_nodes-make-requires t c =
     let pair = pair_of c.args.op c.args.diagrams.now.store c.args.level c.args.x c.args.y c.requires.depth c.requires.joinable in
-    kids_ready pair c.in_ok-kids.ensures
-
-pub join_nodes-make-requires-clause-timely : goal.join_nodes-make-requires-clause-timely
-join_nodes-make-requires-clause-timely t c =
-    let pair = pair_of c.args.op c.args.diagrams.now.store c.args.level c.args.x c.args.y c.requires.depth c.requires.joinable in
-    kids_timely pair c.in_ok-kids.ensures
+    kids_makeable pair c.in_ok-kids.ensures
 
 pub join_nodes-returns-in_err-result : goal.join_nodes-returns-in_err-result
 join_nodes-returns-in_err-result t c =

@@ -1,35 +1,25 @@
-use Rattle.std.proofs.Common.{◌+◌, get_or, drop, sym, ap, ◌∙◌}
-use Rattle.std.proofs.lemmas.List.{at_drop_more, at_drop_all}
-use Rattle.model.specs.Charts.{greater, plus}
-use Rattle.model.proofs.Lateness.{greater_assoc}
-use Rattle.store.specs.Stores.{none_edge, below, highest}
-use Rattle.store.proofs.Greatest.{greater_none}
-use Rattle.build.proofs.Highs.{next_timely}
+use Rattle.std.proofs.Common.{◌≡◌, ℕ, ◌<◌, false, length, get_or, drop, sym, ◌∙◌, subst, rules, tests}
+use Rattle.std.proofs.lemmas.Iterator.{YieldsList-from_slice}
+use Rattle.std.proofs.lemmas.Iterator.Adapters.{option_map_id, serves_from_places}
+use Rattle.std.proofs.lemmas.Iterator.Consumers.{YieldsList-from_filter_map, max_from_yields_List}
+use Rattle.nodes.specs.declared.edge.Edge.{Edge}
+use Rattle.model.specs.Charts.{plus, late}
+use Rattle.store.specs.Stores.{below}
+use Rattle.build.proofs.Highs.{each_timely, greatest_is}
 use Rattle.build.proofs.reach.highest.Goals as goal
 
-pub reach-requires : goal.reach-requires
-reach-requires c = record {
-  depth = c.requires.depth;
-  timely = next_timely c.args.nodes.now (drop c.args.level c.args.settings.now) c.args.edges.now c.loop-e.e-index c.loop-e.best c.loop-e-test.true c.loop-e.invariant c.requires.timely;
-}
-
-pub loop-e-preserved : goal.loop-e-preserved
-loop-e-preserved c =
+pub max-requires-clause-can : goal.max-requires-clause-can
+max-requires-clause-can c =
     let nodes = c.args.nodes.now in
     let ns = drop c.args.level c.args.settings.now in
-    let xs = c.args.edges.now in
-    let i = c.loop-e.e-index in
-    let e = get_or xs i none_edge in
-    let rest = highest nodes ns (drop (i + 1) xs) in
-    ap (λ v. greater v rest) (c.greater-best.ensures.value ∙ ap (greater c.loop-e.best) c.reach.ensures)
-    ∙ greater_assoc c.loop-e.best (plus e.weight (below nodes ns e)) rest
-    ∙ sym (at_drop_more (λ ys. greater c.loop-e.best (highest nodes ns ys)) xs i none_edge c.loop-e-test.true)
-    ∙ c.loop-e.invariant
+    let es = c.args.edges.now in
+    let timely = λ (e : Edge) (k : ℕ) (lt : k < length es) (is : e ≡ get_or es k e). subst (λ (d : Edge). late (plus d.weight (below nodes ns d)) ≡ false) (sym is) (each_timely nodes ns es k e lt c.requires.timely) in
+    (tt, tt, serves_from_places (YieldsList-from_slice es cc) (λ x q k. search (rules, tests)) (λ x k lt is. let here = timely x.now k lt is in search (rules, here, c.requires.depth)))
 
 pub returns : goal.returns
 returns c =
     let nodes = c.args.nodes.now in
     let ns = drop c.args.level c.args.settings.now in
-    sym (greater_none c.loop-e.best)
-    ∙ sym (at_drop_all (λ ys. greater c.loop-e.best (highest nodes ns ys)) c.args.edges.now c.loop-e.e-index c.loop-e-test.false)
-    ∙ c.loop-e.invariant
+    let es = c.args.edges.now in
+    let most = max_from_yields_List c.filter_map.result c.max.result c.max.ensures.ran (YieldsList-from_filter_map _ (λ (e : Edge). plus e.weight (below nodes ns e)) (YieldsList-from_slice es cc) c.filter_map.ensures.closure (λ x r q k. search (rules, tests))) in
+    sym (option_map_id c.max.result) ∙ most ∙ greatest_is nodes ns es
