@@ -1,1 +1,3 @@
 pub mod Means
+pub mod Numbers
+pub mod Soundness

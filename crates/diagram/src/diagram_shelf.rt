@@ -20,4 +20,6 @@ pub struct DiagramShelf {
     ghost alike: { Alike charts.diagrams.store spare } by { alike_prop charts.diagrams.store spare },
 }
 
+pub mod calls;
 pub mod hanging;
+mod numbers;
