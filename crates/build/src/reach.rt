@@ -16,7 +16,7 @@ const NO_NODE: Node = Node {
 };
 
 /// The node in a slot; a free slot stands for a node without times.
-pub(crate) fn node_at(nodes: &[Option<Node>], i: u16) -> Node
+pub fn node_at(nodes: &[Option<Node>], i: u16) -> Node
     ensures { result ≡ stores.node_at nodes.now i }
 {
     taken(nodes, usize::from(i)).unwrap_or(NO_NODE)
