@@ -1,4 +1,4 @@
--- The steps of a sweep, in which a store takes copies of what the pegs of another carry. Assumes nothing.
+-- The steps of a sweep: what pegs carry, and its copy in another store, peg by peg. Assumes nothing.
 use Rattle.std.proofs.Common.{◌≡◌, ℕ, ◌+◌, ◌<◌, ◌≤◌, List, [], ◌∷◌, ◌++◌, map, length, get_or, take, drop, set, Some, None, Option, sym, refl, ap, ◌∙◌, subst, inl, inr, arith}
 use mathlib.Core.List.{map-append}
 use Rattle.std.specs.List.{AllByRecursion, flat_map}
