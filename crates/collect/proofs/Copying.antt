@@ -17,13 +17,13 @@ use Rattle.store.specs.Stores.{none_edge, node_at, chart, body, below, highest, 
 use Rattle.store.specs.Fillings.{Stuck}
 use Rattle.store.proofs.Canon.{Known, led, kids_of, knows, knows_kids, kids_long, body_long, body_low, body_high, lowered_is}
 use Rattle.store.proofs.Grows.{fine_kept, chart_kept}
-use Rattle.build.specs.Builds.{piece, Kids, together, Stands}
+use Rattle.build.specs.Builds.{Makeable, piece, together, Stands}
 use Rattle.build.specs.Grew.{nodes_in, shape_in, Grew, Begun}
 use Rattle.build.specs.declared.node_store.NodeStore.{NodeStore}
 use Rattle.build.proofs.Highs.{late_left, late_right}
 use Rattle.build.proofs.Makes.{late_less, highest_never}
 use Rattle.build.proofs.Steps.{get_or_in, stuck_wider}
-use Rattle.build.proofs.Grown.{grew_alike, grew_next, stuck_next, begun_next, begun_kids, begun_timely, grew_made, built_made}
+use Rattle.build.proofs.Grown.{grew_alike, grew_next, stuck_next, begun_next, begun_makeable, grew_made, built_made}
 use Rattle.collect.specs.Copies.{Noted, Moved}
 
 -- What is late
@@ -245,11 +245,8 @@ module _ {source : List (Option Node)} {first mid : NodeStore} {moved : List (Op
 
   -- the node
   module _ (all : i ≡ get_or (shape_in first) l 0) where
-    pub filled_kids : Kids (nodes_in mid) (get_or (shape_in mid) l 0) (drop (l + 1) (shape_in mid)) l kids
-    filled_kids = begun_kids first mid mid l inner i kids side.lt f.begun inner all (aim_long side)
-
-    pub filled_timely : late (below source (drop l (shape_in first)) e) ≡ false → some late (together (nodes_in mid) (shape_in mid) l kids) ≡ false
-    filled_timely h = begun_timely first mid mid l inner i kids side.lt f.begun inner all (aim_long side) (aim_timely side h)
+    pub filled_makeable : late (below source (drop l (shape_in first)) e) ≡ false → Makeable (nodes_in mid) (shape_in mid) l kids
+    filled_makeable h = begun_makeable first mid mid l inner i kids side.lt f.begun inner all (aim_long side) (aim_timely side h)
 
     module _ {new : NodeStore} (g : Grew mid new l (together (nodes_in mid) (shape_in mid) l kids)) where
       grew_here : Grew first new l inner

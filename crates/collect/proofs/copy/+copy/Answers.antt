@@ -1,5 +1,5 @@
 use Rattle.std.proofs.Common.{length, sym, refl, ap, arith}
-use Rattle.collect.proofs.Copying.{side_at, item_at, all_passed, filled_grew, filled_stuck, filled_moved, filled_more, next_kid, filled_kids, filled_timely, filled_made, filled_full, still_moved, filled_stands, filled_noted}
+use Rattle.collect.proofs.Copying.{side_at, item_at, all_passed, filled_grew, filled_stuck, filled_moved, filled_more, next_kid, filled_makeable, filled_made, filled_full, still_moved, filled_stands, filled_noted}
 use Rattle.collect.proofs.copy.+copy.Goals as goal
 
 pub returns-in-Some-clause-built : goal.returns-in-Some-clause-built
@@ -30,7 +30,7 @@ pub make-requires : goal.make-requires
 make-requires t c =
     let side = side_at c.args.level c.args.e c.requires.store (omega arith) c.requires.fine in
     let all = all_passed side c.loop-i.i c.count-count.ensures.value c.node_at-node.ensures c.loop-i-test.false c.loop-i.auto.i-end in
-    record { depth = omega (arith, ap length c.loop-i.invariant.begun.same, side.lt); kids = filled_kids side c.loop-i.invariant all; timely = filled_timely side c.loop-i.invariant all c.requires.timely }
+    filled_makeable side c.loop-i.invariant all c.requires.timely
 
 pub returns-in_err-made : goal.returns-in_err-made
 returns-in_err-made t c =
