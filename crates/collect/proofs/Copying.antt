@@ -1,9 +1,9 @@
--- The steps of copying, over plain values. Assumes nothing.
+-- The steps of copying: an edge, the kids of its node in a store that grows, and what is noted. Assumes nothing.
 use Rattle.std.proofs.Common.{◌≡◌, ℕ, zero, suc, ◌+◌, ◌*◌, ◌<◌, ◌≤◌, false, List, [], ◌∷◌, length, get_or, take, drop, set, Some, None, Option, sym, refl, ap, ◌∙◌, subst, inl, inr, arith}
 use Rattle.std.specs.List.{AllByRecursion, flat_map}
 use Rattle.std.proofs.lemmas.Bool.{cases_eq}
 use Rattle.std.proofs.lemmas.List.{drop_more, get_or-map, get_or-set_same, get_or-set_other}
-use Rattle.table.specs.Tables.{slot}
+use Rattle.table.specs.Tables.{slot, Kept}
 use Rattle.nodes.specs.declared.edge.Edge.{Edge}
 use Rattle.nodes.specs.declared.node.Node.{Node}
 use Rattle.model.specs.Charts.{Time, Chart, plus, late}
@@ -17,12 +17,13 @@ use Rattle.store.specs.Stores.{none_edge, node_at, chart, body, below, highest, 
 use Rattle.store.specs.Fillings.{Stuck}
 use Rattle.store.proofs.Canon.{Known, led, kids_of, knows, knows_kids, kids_long, body_long, body_low, body_high, lowered_is}
 use Rattle.store.proofs.Grows.{fine_kept, chart_kept}
-use Rattle.build.specs.Builds.{piece, Ready, Kids, Grows, Partway, together, Stands}
-use Rattle.build.specs.Grew.{nodes_in, shape_in, Grew}
+use Rattle.build.specs.Builds.{Makeable, piece, together, Stands}
+use Rattle.build.specs.Grew.{nodes_in, shape_in, Grew, Begun}
 use Rattle.build.specs.declared.node_store.NodeStore.{NodeStore}
 use Rattle.build.proofs.Highs.{late_left, late_right}
 use Rattle.build.proofs.Makes.{late_less, highest_never}
-use Rattle.build.proofs.Steps.{get_or_in, grows_then, grows_alike, stuck_wider, partway_grows, partway_stuck, partway_more, partway_kids, partway_all}
+use Rattle.build.proofs.Steps.{get_or_in, stuck_wider}
+use Rattle.build.proofs.Grown.{grew_alike, grew_next, stuck_next, begun_next, begun_makeable, grew_made, built_made}
 use Rattle.collect.specs.Copies.{Noted, Moved}
 
 -- What is late
@@ -56,8 +57,8 @@ pub record Side (source : List (Option Node)) (shape : Shape) (l : ℕ) (e : Edg
   pub lt : l < length shape
   pub fine : Fine source (drop l shape) l e
 
-pub side_at : (source : NodeStore) (l : ℕ) (e : Edge) → l < length (shape_in source) → Fine (nodes_in source) (drop l (shape_in source)) l e → Side (nodes_in source) (shape_in source) l e
-side_at source l e lt fine = record { store = source.ready.store; lt = lt; fine = fine }
+pub side_at : {source : List (Option Node)} {shape : Shape} (l : ℕ) (e : Edge) → Store source shape → l < length shape → Fine source (drop l shape) l e → Side source shape l e
+side_at l e store lt fine = record { store = store; lt = lt; fine = fine }
 
 -- what stands at a setting of the device
 pub record Item (source : List (Option Node)) (shape : Shape) (l : ℕ) (e : Edge) (i : ℕ) (kid : Edge) : Type 0 where
@@ -121,12 +122,12 @@ module _ {source : List (Option Node)} {shape : Shape} {l : ℕ} {e : Edge} (sid
     within : k < length sides
     within = omega (arith, item.below, formed.wide)
 
-    pub kid_fine : Fine source (drop (l + 1) shape) (l + 1) kid
+    kid_fine : Fine source (drop (l + 1) shape) (l + 1) kid
     kid_fine =
         let fine = Fine source (drop (l + 1) shape) (l + 1) in
         subst fine (sym item.is) (all_in fine (get_or sides k none_edge) sides all_kids (get_or_in sides k none_edge within))
 
-    pub kid_timely : late (below source (drop l shape) e) ≡ false → late (below source (drop (l + 1) shape) kid) ≡ false
+    kid_timely : late (below source (drop l shape) e) ≡ false → late (below source (drop (l + 1) shape) kid) ≡ false
     kid_timely h =
         let ns = drop (l + 1) shape in
         let t = highest_at source ns sides k within (ap late (sym formed.high ∙ sym most_is) ∙ h) in
@@ -141,43 +142,6 @@ module _ {source : List (Option Node)} {shape : Shape} {l : ℕ} {e : Edge} (sid
         ∙ ap (λ ps. get_or ps k []) (pieces_each (chart source ns) (size ns) sides (kids_long source n ns sides known))
         ∙ get_or-map (chart source ns) sides k none_edge [] within
         ∙ ap (chart source ns) (sym item.is))
-
-  -- the loop
-  module _ {old mid : List (Option Node)} (ready : Ready old shape) {i : ℕ} {kids : List Edge} (way : Partway old mid shape l (aim source shape l e) i kids) where
-    module _ {kid : Edge} (item : Item source shape l e i kid) {new : List (Option Node)} (g : Grows mid new shape (l + 1) (chart source (drop (l + 1) shape) kid)) where
-      grew : Grows mid new shape (l + 1) (piece shape l (aim source shape l e) i)
-      grew = subst (Grows mid new shape (l + 1)) (kid_piece item) g
-
-      copy_grows : Grows old new shape l (chart source (drop l shape) e)
-      copy_grows = grows_alike old new shape l (aim source shape l e) (chart source (drop l shape) e) same_parts (partway_grows old mid new shape l (aim source shape l e) i kids ready.store side.lt item.below way grew)
-
-      copy_stuck : Stuck new shape (l + 1) (chart source (drop (l + 1) shape) kid) → Stuck new shape l (chart source (drop l shape) e)
-      copy_stuck s = stuck_wider new shape l l (chart source (drop l shape) e) (aim source shape l e) (λ p h. subst (In p) same_parts h) (partway_stuck old mid new shape l (aim source shape l e) i kids ready.store side.lt item.below way grew (subst (Stuck new shape (l + 1)) (kid_piece item) s))
-
-      copy_more : (d : Edge) → Stands new shape (l + 1) (chart source (drop (l + 1) shape) kid) d → Partway old new shape l (aim source shape l e) (i + 1) (set kids i d)
-      copy_more d st = partway_more old mid new shape l (aim source shape l e) i kids ready.store side.lt item.below way grew d (ready.few l) st.0 (st.1 ∙ kid_piece item)
-
-    module _ (all : i ≡ get_or shape l 0) where
-      end : Partway old mid shape l (aim source shape l e) (get_or shape l 0) kids
-      end = subst (λ k. Partway old mid shape l (aim source shape l e) k kids) all way
-
-      copy_together : together mid shape l kids ≡ aim source shape l e
-      copy_together = partway_all old mid shape l (aim source shape l e) kids (ready.few l) end aim_long
-
-      copy_kids : Kids mid (get_or shape l 0) (drop (l + 1) shape) l kids
-      copy_kids = partway_kids old mid shape l (aim source shape l e) kids (ready.few l) end
-
-      copy_timely : late (below source (drop l shape) e) ≡ false → some late (together mid shape l kids) ≡ false
-      copy_timely h = ap (some late) copy_together ∙ aim_timely h
-
-      copy_made : {new : List (Option Node)} → Grows mid new shape l (together mid shape l kids) → Grows old new shape l (chart source (drop l shape) e)
-      copy_made {new} g = grows_alike old new shape l (aim source shape l e) (chart source (drop l shape) e) same_parts (grows_then old mid new shape l l (aim source shape l e) (aim source shape l e) ready.store (λ p h. h) way.grows (subst (Grows mid new shape l) copy_together g))
-
-      copy_full : {new : List (Option Node)} → Stuck new shape l (together mid shape l kids) → Stuck new shape l (chart source (drop l shape) e)
-      copy_full {new} s = stuck_wider new shape l l (chart source (drop l shape) e) (aim source shape l e) (λ p h. subst (In p) same_parts h) (subst (Stuck new shape l) copy_together s)
-
-      made_aim : (new : List (Option Node)) (m : Edge) → Stands new shape l (together mid shape l kids) m → Stands new shape l (aim source shape l e) m
-      made_aim new m st = (st.0, st.1 ∙ copy_together)
 
   -- the made edge, with the weight of the edge to the node
   copy_stands : {new : List (Option Node)} → Store new shape → (m : Edge) → Stands new shape l (aim source shape l e) m → Stands new shape l (chart source (drop l shape) e) (record { weight = e.weight; child = m.child })
@@ -200,11 +164,11 @@ module _ {source : List (Option Node)} {shape : Shape} {l : ℕ} {e : Edge} (sid
 
 -- Notes
 
-moved_kept : {source old new : List (Option Node)} {shape : Shape} {l : ℕ} {c : Chart} (moved : List (Option ℕ)) → Store old shape → Grows old new shape l c → Moved source old shape moved → Moved source new shape moved
-moved_kept {source} {old} {new} {shape} moved store g m k j h l e lt is f =
+moved_kept : (source old new : List (Option Node)) (shape : Shape) (moved : List (Option ℕ)) → Store old shape → Kept old new → Moved source old shape moved → Moved source new shape moved
+moved_kept source old new shape moved store kept m k j h l e lt is f =
     let st = m k j h l e lt is f in
     let d : Edge = record { weight = e.weight; child = j } in
-    (fine_kept old new g.kept (drop l shape) l d st.0, chart_kept old new g.kept shape store (drop l shape) l d refl st.0 ∙ st.1)
+    (fine_kept old new kept (drop l shape) l d st.0, chart_kept old new kept shape store (drop l shape) l d refl st.0 ∙ st.1)
 
 -- the level of an edge is that of its node
 level_of : (source : List (Option Node)) (shape : Shape) (l : ℕ) (e : Edge) → l < length shape → Fine source (drop l shape) l e → (node_at source e.child).level ≡ l
@@ -227,73 +191,82 @@ noted_set old i j il k m h = elim (cases_eq k i) [
   | inr n ↦ inl (sym (get_or-set_other old i k (Some j) None n) ∙ h)
 ]
 
--- Stores
+-- The loop
 
 -- the first i kids of the node that an edge leads to are copied
-pub record Filled (source first spare : NodeStore) (moved : List (Option ℕ)) (l : ℕ) (e : Edge) (i : ℕ) (kids : List Edge) : Type 0 where
-  pub alike : shape_in source ≡ shape_in spare
-  pub way : Partway (nodes_in first) (nodes_in spare) (shape_in source) l (aim (nodes_in source) (shape_in source) l e) i kids
-  pub noted : Moved (nodes_in source) (nodes_in spare) (shape_in source) moved
+pub record Filled (source : List (Option Node)) (first mid : NodeStore) (moved : List (Option ℕ)) (l : ℕ) (e : Edge) (i : ℕ) (kids : List Edge) : Type 0 where
+  pub begun : Begun first mid l (aim source (shape_in first) l e) i kids
+  pub noted : Moved source (nodes_in mid) (shape_in first) moved
 
--- what is said of a store over its own shape, over that of another with the same, and back
-module _ (source spare : NodeStore) (alike : shape_in source ≡ shape_in spare) where
-  pub ready_over : Ready (nodes_in spare) (shape_in source)
-  ready_over = subst (Ready (nodes_in spare)) (sym alike) spare.ready
-
-  pub grows_over : (new : NodeStore) (l : ℕ) (c : Chart) → Grew spare new l c → Grows (nodes_in spare) (nodes_in new) (shape_in source) l c
-  grows_over new l c g = subst (λ s. Grows (nodes_in spare) (nodes_in new) s l c) (sym alike) g.grows
-
-  pub grew_over : (new : NodeStore) (l : ℕ) (c : Chart) → shape_in source ≡ shape_in new → Grows (nodes_in spare) (nodes_in new) (shape_in source) l c → Grew spare new l c
-  grew_over new l c still g = record { same = sym still ∙ alike; grows = subst (λ s. Grows (nodes_in spare) (nodes_in new) s l c) alike g }
-
-module _ {source first spare : NodeStore} {moved : List (Option ℕ)} {l : ℕ} {e : Edge} {i : ℕ} {kids : List Edge} (start : shape_in source ≡ shape_in first) (side : Side (nodes_in source) (shape_in source) l e) (f : Filled source first spare moved l e i kids) where
-  abbrev shape : Shape
-  shape = shape_in source
+module _ {source : List (Option Node)} {first mid : NodeStore} {moved : List (Option ℕ)} {l : ℕ} {e : Edge} {i : ℕ} {kids : List Edge} (side : Side source (shape_in first) l e) (f : Filled source first mid moved l e i kids) where
+  abbrev inner : Chart
+  inner = aim source (shape_in first) l e
 
   abbrev whole : Chart
-  whole = chart (nodes_in source) (drop l shape) e
+  whole = chart source (drop l (shape_in first)) e
+
+  whole_grew : (new : NodeStore) → Grew first new l inner → Grew first new l whole
+  whole_grew new g = grew_alike first new l inner whole (same_parts side) g
+
+  whole_stuck : (new : NodeStore) → Stuck (nodes_in new) (shape_in first) l inner → Stuck (nodes_in new) (shape_in first) l whole
+  whole_stuck new s = stuck_wider (nodes_in new) (shape_in first) l l whole inner (λ p h. subst (In p) (same_parts side) h) s
 
   -- the next kid
-  module _ {kid : Edge} (item : Item (nodes_in source) shape l e i kid) {new : NodeStore} (g : Grew spare new (l + 1) (chart (nodes_in source) (drop (l + 1) shape) kid)) where
-    grows_here : Grows (nodes_in spare) (nodes_in new) shape (l + 1) (chart (nodes_in source) (drop (l + 1) shape) kid)
-    grows_here = grows_over source spare f.alike new (l + 1) (chart (nodes_in source) (drop (l + 1) shape) kid) g
+  module _ {kid : Edge} (item : Item source (shape_in first) l e i kid) where
+    -- what its copy asks, over a shape
+    pub record Next (shape : Shape) : Type 0 where
+      pub depth : l + 1 ≤ length shape
+      pub store : Store source shape
+      pub noted : Moved source (nodes_in mid) shape moved
+      pub fine : Fine source (drop (l + 1) shape) (l + 1) kid
+      pub timely : late (below source (drop (l + 1) shape) kid) ≡ false
 
-    pub filled_grew : Grew first new l whole
-    filled_grew = grew_over source first start new l whole (f.alike ∙ sym g.same) (copy_grows side (ready_over source first start) f.way item grows_here)
+    pub next_kid : late (below source (drop l (shape_in first)) e) ≡ false → Next (shape_in mid)
+    next_kid h = subst Next (sym f.begun.same) (record { depth = omega (arith, side.lt); store = side.store; noted = f.noted; fine = kid_fine side item; timely = kid_timely side item h })
 
-    pub filled_stuck : Stuck (nodes_in new) shape (l + 1) (chart (nodes_in source) (drop (l + 1) shape) kid) → Stuck (nodes_in new) shape l whole
-    filled_stuck = copy_stuck side (ready_over source first start) f.way item grows_here
+    abbrev part : Chart
+    part = chart source (drop (l + 1) (shape_in mid)) kid
 
-    pub filled_more : (after : List (Option ℕ)) (d : Edge) → Stands (nodes_in new) shape (l + 1) (chart (nodes_in source) (drop (l + 1) shape) kid) d → Moved (nodes_in source) (nodes_in new) shape after → Filled source first new after l e (i + 1) (set kids i d)
-    filled_more after d st noted = record { alike = f.alike ∙ sym g.same; way = copy_more side (ready_over source first start) f.way item grows_here d st; noted = noted }
+    part_is : part ≡ piece (shape_in first) l inner i
+    part_is = ap (λ s. chart source (drop (l + 1) s) kid) f.begun.same ∙ kid_piece side item
+
+    module _ {new : NodeStore} (g : Grew mid new (l + 1) part) where
+      pub filled_grew : Grew first new l whole
+      filled_grew = whole_grew new (grew_next first mid new l inner i kids side.lt f.begun part item.below part_is g)
+
+      pub filled_stuck : Stuck (nodes_in new) (shape_in mid) (l + 1) part → Stuck (nodes_in new) (shape_in first) l whole
+      filled_stuck s = whole_stuck new (stuck_next first mid new l inner i kids side.lt f.begun part item.below part_is g s)
+
+      pub filled_moved : (after : List (Option ℕ)) → Moved source (nodes_in new) (shape_in mid) after → Moved source (nodes_in new) (shape_in first) after
+      filled_moved after m = subst (λ s. Moved source (nodes_in new) s after) f.begun.same m
+
+      pub filled_more : (after : List (Option ℕ)) (d : Edge) → Stands (nodes_in new) (shape_in mid) (l + 1) part d → Moved source (nodes_in new) (shape_in mid) after → Filled source first new after l e (i + 1) (set kids i d)
+      filled_more after d st m = record { begun = begun_next first mid new l inner i kids side.lt f.begun part item.below part_is g d st; noted = filled_moved after m }
 
   -- the node
-  module _ (all : i ≡ get_or shape l 0) where
-    pub filled_kids : Kids (nodes_in spare) (get_or (shape_in spare) l 0) (drop (l + 1) (shape_in spare)) l kids
-    filled_kids = subst (λ s. Kids (nodes_in spare) (get_or s l 0) (drop (l + 1) s) l kids) f.alike (copy_kids side (ready_over source first start) f.way all)
+  module _ (all : i ≡ get_or (shape_in first) l 0) where
+    pub filled_makeable : late (below source (drop l (shape_in first)) e) ≡ false → Makeable (nodes_in mid) (shape_in mid) l kids
+    filled_makeable h = begun_makeable first mid mid l inner i kids side.lt f.begun inner all (aim_long side) (aim_timely side h)
 
-    pub filled_timely : late (below (nodes_in source) (drop l shape) e) ≡ false → some late (together (nodes_in spare) (shape_in spare) l kids) ≡ false
-    filled_timely h = subst (λ s. some late (together (nodes_in spare) s l kids) ≡ false) f.alike (copy_timely side (ready_over source first start) f.way all h)
-
-    module _ {new : NodeStore} (g : Grew spare new l (together (nodes_in spare) (shape_in spare) l kids)) where
-      grown_here : Grows (nodes_in spare) (nodes_in new) shape l (together (nodes_in spare) shape l kids)
-      grown_here = subst (λ s. Grows (nodes_in spare) (nodes_in new) s l (together (nodes_in spare) s l kids)) (sym f.alike) g.grows
+    module _ {new : NodeStore} (g : Grew mid new l (together (nodes_in mid) (shape_in mid) l kids)) where
+      grew_here : Grew first new l inner
+      grew_here = grew_made first mid new l inner i kids side.lt f.begun inner all (aim_long side) g
 
       pub filled_made : Grew first new l whole
-      filled_made = grew_over source first start new l whole (f.alike ∙ sym g.same) (copy_made side (ready_over source first start) f.way all grown_here)
+      filled_made = whole_grew new grew_here
 
-      pub filled_full : Stuck (nodes_in new) (shape_in spare) l (together (nodes_in spare) (shape_in spare) l kids) → Stuck (nodes_in new) shape l whole
-      filled_full s = copy_full side (ready_over source first start) f.way all (subst (λ n. Stuck (nodes_in new) n l (together (nodes_in spare) n l kids)) (sym f.alike) s)
+      pub filled_full : Stuck (nodes_in new) (shape_in mid) l (together (nodes_in mid) (shape_in mid) l kids) → Stuck (nodes_in new) (shape_in first) l whole
+      filled_full s = whole_stuck new (built_made first mid new l inner i kids side.lt f.begun inner all (aim_long side) None s)
 
-      pub still_moved : Moved (nodes_in source) (nodes_in new) shape moved
-      still_moved = moved_kept moved f.way.grows.store grown_here f.noted
+      pub still_moved : Moved source (nodes_in new) (shape_in first) moved
+      still_moved = moved_kept source (nodes_in mid) (nodes_in new) (shape_in first) moved f.begun.way.grows.store g.grows.kept f.noted
 
-      module _ (m : Edge) (st : Stands (nodes_in new) (shape_in spare) l (together (nodes_in spare) (shape_in spare) l kids) m) where
-        stands_here : Stands (nodes_in new) shape l (aim (nodes_in source) shape l e) m
-        stands_here = made_aim side (ready_over source first start) f.way all (nodes_in new) m (subst (λ n. Stands (nodes_in new) n l (together (nodes_in spare) n l kids) m) (sym f.alike) st)
+      module _ (m : Edge) (st : Stands (nodes_in new) (shape_in mid) l (together (nodes_in mid) (shape_in mid) l kids) m) where
+        stands_here : Stands (nodes_in new) (shape_in first) l inner m
+        stands_here = built_made first mid new l inner i kids side.lt f.begun inner all (aim_long side) (Some m) st
 
-        pub filled_stands : Stands (nodes_in new) shape l whole (record { weight = e.weight; child = m.child })
-        filled_stands = copy_stands side grown_here.store m stands_here
+        pub filled_stands : Stands (nodes_in new) (shape_in first) l whole (record { weight = e.weight; child = m.child })
+        filled_stands = copy_stands side grew_here.grows.store m stands_here
 
-        pub filled_noted : (after : List (Option ℕ)) → Noted moved after e.child m.child → Moved (nodes_in source) (nodes_in new) shape after
-        filled_noted after noted = moved_noted moved after m side grown_here.store still_moved stands_here noted
+        pub filled_noted : (after : List (Option ℕ)) → Noted moved after e.child m.child → Moved source (nodes_in new) (shape_in first) after
+        filled_noted after noted = moved_noted moved after m side grew_here.grows.store still_moved stands_here noted

@@ -1,4 +1,4 @@
--- The steps of a dial, over plain values. Assumes nothing.
+-- The steps of a dial: charts of one entry, the levels above its device, and the kids of its node in a store that grows. Assumes nothing.
 use Rattle.std.proofs.Common.{◌≡◌, ◌*◌, ℕ, suc, ◌+◌, ◌-◌, ◌<◌, ◌≤◌, Bool, false, ◌||◌, List, [], ◌∷◌, map, length, get_or, take, drop, set, None, Option, sym, refl, zero-add, length-take, ap, ◌∙◌, subst, arith}
 use Rattle.std.specs.List.{range_with_len, flat_map}
 use Rattle.std.proofs.lemmas.List.{drop_more, drop_all, get_or-take, get_or-drop}

@@ -1,21 +1,25 @@
 -- The calls of a flat shelf: when they are refused, and what they leave. Assumes nothing.
-use Rattle.std.proofs.Common.{◌≡◌, ℕ, ◌<◌, ◌≤◌, Bool, true, false, ◌&&◌, ◌||◌, ltb, leb, ◌⊎◌, List, [], ◌∷◌, length, get_or, take, None, Ok, Err, sym, refl, ap, ◌∙◌, ap₂, inl, inr, arith}
+use Rattle.std.proofs.Common.{◌≡◌, ℕ, ◌<◌, ◌≤◌, Bool, true, false, ◌&&◌, ◌||◌, ltb, leb, ◌⊎◌, List, [], ◌∷◌, length, get_or, take, None, Ok, Err, Result, IsErrAnd, vec_items, sym, refl, ap, ◌∙◌, ap₂, inl, inr, arith}
 use Rattle.std.specs.List.{AllByRecursion}
+use Rattle.std.proofs.lemmas.Result.{err_from_is_err_and}
 use Rattle.std.proofs.lemmas.Bool.{or_left, or_right, or_from, and_right, lt-leb, le-leb}
 use Rattle.model.specs.Lists.{some}
 use Rattle.model.specs.Scenes.{Shape, Scene, size, rank}
 use Rattle.model.specs.Charts.{Time, Chart, at, lesser, plus, zipped, dialled, put_chart, greatest, late, same_chart}
 use Rattle.model.specs.Refusals.{refuse, answer}
-use Rattle.model.specs.Shelves.{Meaning, Sound, dial, cheaper, sum, put, on, bare, high, no_room, call_checks, does, done, compares, reads, scene_checks}
+use Rattle.model.specs.Shelves.{Meaning, Sound, Call, dial, cheaper, sum, put, on, bare, high, no_room, call_checks, does, done, compares, reads, scene_checks}
 use Rattle.model.proofs.Refusing.{refuses, accepts, accepted, accepted_is, accepted_first}
 use Rattle.model.proofs.Ranks.{rank_less, tests_scene}
-use Rattle.model.proofs.Soundness.{call_accepted, hung_legal}
-use Rattle.shelf.specs.Faults.{number}
+use Rattle.model.proofs.Soundness.{call_accepted, call_refused, hung_legal}
+use Rattle.shelf.specs.Faults.{number, numbered}
+use Rattle.shelf.specs.Shapes.{shape_of}
 use Rattle.shelf.specs.declared.fault.ShelfFault.{ShelfFault}
 use Rattle.flat.specs.Rows.{row, flat}
-use Rattle.flat.specs.Means.{hanging}
-use Rattle.flat.specs.Numbers.{NoCharts}
-use Rattle.flat.specs.Hanging.{bare_at, row_on}
+use Rattle.flat.specs.declared.store.FlatShelf.{FlatShelf}
+use Rattle.flat.specs.declared.store.numbers.Peg.{Peg}
+use Rattle.flat.specs.Means.{means, row_of, hanging}
+use Rattle.flat.specs.Numbers.{Hangs, NoCharts}
+use Rattle.flat.specs.Hanging.{bare_at, row_on, sound_of}
 
 pub low_peg : (p : ℕ) → p < 8 → high p ≡ false
 low_peg p h = lt-leb 8 p h
@@ -78,32 +82,32 @@ module _ (ns : Shape) (cells : List Time) (hung : List Bool) where
         cheaper_checks : AllByRecursion (λ k. k.holds ≡ false) (call_checks m (cheaper t l r))
         cheaper_checks = (all_low t l r ht hl hr, (none_bare el er, (refl, tt)))
 
-        pub cheaper_does : does m (cheaper t l r) ≡ Ok tt
+        cheaper_does : does m (cheaper t l r) ≡ Ok tt
         cheaper_does = accepts (call_checks m (cheaper t l r)) tt cheaper_checks
 
-        pub cheaper_done : (n : Meaning) → n ≡ hanging m t (zipped lesser (row cells (size ns) l) (row cells (size ns) r)) → n ≡ done m (cheaper t l r)
+        cheaper_done : (n : Meaning) → n ≡ hanging m t (zipped lesser (row cells (size ns) l) (row cells (size ns) r)) → n ≡ done m (cheaper t l r)
         cheaper_done n e = e ∙ ap (hanging m t) (sym (joined_rows lesser)) ∙ sym (call_accepted m (cheaper t l r) cheaper_does)
 
-        pub cheaper_legal : Sound m → some late (zipped lesser (row cells (size ns) l) (row cells (size ns) r)) ≡ false
+        cheaper_legal : Sound m → some late (zipped lesser (row cells (size ns) l) (row cells (size ns) r)) ≡ false
         cheaper_legal s = ap (some late) (sym (joined_rows lesser)) ∙ hung_legal m s (cheaper t l r) cheaper_checks
 
         sum_of : late (plus (greatest (on m.pegs l)) (greatest (on m.pegs r))) ≡ late (plus (greatest (row cells (size ns) l)) (greatest (row cells (size ns) r)))
         sum_of = λ i. late (plus (greatest (row_on ns cells hung l hl el i)) (greatest (row_on ns cells hung r hr er i)))
 
-        pub sum_late : (b : Bool) → b ≡ late (plus (greatest (row cells (size ns) l)) (greatest (row cells (size ns) r))) → b ≡ true → does m (sum t l r) ≡ Err 16
+        sum_late : (b : Bool) → b ≡ late (plus (greatest (row cells (size ns) l)) (greatest (row cells (size ns) r))) → b ≡ true → does m (sum t l r) ≡ Err 16
         sum_late b f e = refuses (refuse 14 (high t || (high l || high r)) ∷ refuse 15 (bare m.pegs l || bare m.pegs r) ∷ []) 16 (late (plus (greatest (on m.pegs l)) (greatest (on m.pegs r)))) (no_room m (sum t l r) ∷ []) tt (all_low t l r ht hl hr, (none_bare el er, tt)) (sum_of ∙ sym f ∙ e)
 
         module _ (b : Bool) (told : b ≡ late (plus (greatest (row cells (size ns) l)) (greatest (row cells (size ns) r)))) (timely : b ≡ false) where
           sum_checks : AllByRecursion (λ k. k.holds ≡ false) (call_checks m (sum t l r))
           sum_checks = (all_low t l r ht hl hr, (none_bare el er, (sum_of ∙ sym told ∙ timely, (refl, tt))))
 
-          pub sum_does : does m (sum t l r) ≡ Ok tt
+          sum_does : does m (sum t l r) ≡ Ok tt
           sum_does = accepts (call_checks m (sum t l r)) tt sum_checks
 
-          pub sum_done : (n : Meaning) → n ≡ hanging m t (zipped plus (row cells (size ns) l) (row cells (size ns) r)) → n ≡ done m (sum t l r)
+          sum_done : (n : Meaning) → n ≡ hanging m t (zipped plus (row cells (size ns) l) (row cells (size ns) r)) → n ≡ done m (sum t l r)
           sum_done n e = e ∙ ap (hanging m t) (sym (joined_rows plus)) ∙ sym (call_accepted m (sum t l r) sum_does)
 
-          pub sum_legal : Sound m → some late (zipped plus (row cells (size ns) l) (row cells (size ns) r)) ≡ false
+          sum_legal : Sound m → some late (zipped plus (row cells (size ns) l) (row cells (size ns) r)) ≡ false
           sum_legal s = ap (some late) (sym (joined_rows plus)) ∙ hung_legal m s (sum t l r) sum_checks
 
   pub compares_refused : (l r : ℕ) (f : ShelfFault) → NoCharts hung l r f → compares m l r ≡ Err (number f)
@@ -166,3 +170,41 @@ module _ (ns : Shape) (cells : List Time) (hung : List Bool) where
 
         pub reads_row : get_or hung p false ≡ true → (c : Chart) → c ≡ row cells (size ns) p → Ok (get_or c k None) ≡ reads m p s
         reads_row e c f = (λ i. Ok (get_or (f i) ((placed ns s k scene).0 i) None)) ∙ sym (row_read e)
+
+-- A call as its caller reads it: what it is answered, and what it leaves
+
+pub record Answered (m : Meaning) (call : Call) (r : Result (Unit {0}) ℕ) (n : Meaning) : Type 0 where
+  pub answer : r ≡ does m call
+  pub left : n ≡ done m call
+
+pub refused_call : (m : Meaning) (call : Call) (f : ShelfFault) → does m call ≡ Err (number f) → (r : Result (Unit {0}) ShelfFault) → IsErrAnd r (λ y. y ≡ f) → Answered m call (numbered r) m
+refused_call m call f e r h =
+    let p = err_from_is_err_and r h in
+    record { answer = ap numbered (p.1 ∙ ap Err p.2) ∙ sym e; left = sym (call_refused m call _ e) }
+
+-- two pegs that hang, joined onto a third
+module _ (s : FlatShelf) (t l r : ℕ) (target left right : Peg) (named : target.number ≡ t) (hang : Hangs s.hung l left.number × Hangs s.hung r right.number) where
+  joined : (ask : ℕ → ℕ → ℕ → Call) (n : Meaning) → does (means s) (ask target.number left.number right.number) ≡ Ok tt → n ≡ done (means s) (ask target.number left.number right.number) → Answered (means s) (ask t l r) (Ok tt) n
+  joined ask n passed leaves = rw (sym named, sym hang.0.0, sym hang.1.0) (record { answer = sym passed; left = leaves })
+
+  pub cheaper_timely : some late (zipped lesser (row_of s left.number) (row_of s right.number)) ≡ false
+  cheaper_timely = cheaper_legal (shape_of s.shape) (vec_items s.cells) s.hung _ _ left.low right.low _ target.low hang.0.1 hang.1.1 (sound_of s)
+
+  pub cheaper_joined : (n : Meaning) → n ≡ hanging (means s) target.number (zipped lesser (row_of s left.number) (row_of s right.number)) → Answered (means s) (cheaper t l r) (Ok tt) n
+  cheaper_joined n h =
+      joined cheaper n (cheaper_does (shape_of s.shape) (vec_items s.cells) s.hung _ _ left.low right.low _ target.low hang.0.1 hang.1.1)
+      (cheaper_done (shape_of s.shape) (vec_items s.cells) s.hung _ _ left.low right.low _ target.low hang.0.1 hang.1.1 n h)
+
+  module _ (b : Bool) (told : b ≡ late (plus (greatest (row_of s left.number)) (greatest (row_of s right.number)))) where
+    pub sum_too_late : b ≡ true → does (means s) (sum t l r) ≡ Err 16
+    sum_too_late e =
+        rw (sym named, sym hang.0.0, sym hang.1.0)
+        (sum_late (shape_of s.shape) (vec_items s.cells) s.hung _ _ left.low right.low _ target.low hang.0.1 hang.1.1 b told e)
+
+    pub sum_timely : b ≡ false → some late (zipped plus (row_of s left.number) (row_of s right.number)) ≡ false
+    sum_timely e = sum_legal (shape_of s.shape) (vec_items s.cells) s.hung _ _ left.low right.low _ target.low hang.0.1 hang.1.1 b told e (sound_of s)
+
+    pub sum_joined : b ≡ false → (n : Meaning) → n ≡ hanging (means s) target.number (zipped plus (row_of s left.number) (row_of s right.number)) → Answered (means s) (sum t l r) (Ok tt) n
+    sum_joined e n h =
+        joined sum n (sum_does (shape_of s.shape) (vec_items s.cells) s.hung _ _ left.low right.low _ target.low hang.0.1 hang.1.1 b told e)
+        (sum_done (shape_of s.shape) (vec_items s.cells) s.hung _ _ left.low right.low _ target.low hang.0.1 hang.1.1 b told e n h)

@@ -1,4 +1,4 @@
--- The steps of a sweep, over plain values. Assumes nothing.
+-- The steps of a sweep: what pegs carry, and its copy in another store, peg by peg. Assumes nothing.
 use Rattle.std.proofs.Common.{◌≡◌, ℕ, ◌+◌, ◌<◌, ◌≤◌, List, [], ◌∷◌, ◌++◌, map, length, get_or, take, drop, set, Some, None, Option, sym, refl, ap, ◌∙◌, subst, inl, inr, arith}
 use mathlib.Core.List.{map-append}
 use Rattle.std.specs.List.{AllByRecursion, flat_map}
@@ -22,8 +22,8 @@ use Rattle.store.proofs.Fits.{roomy, overfull}
 use Rattle.build.specs.Builds.{Grows, Built}
 use Rattle.build.specs.Grew.{nodes_in, shape_in, Grew}
 use Rattle.build.specs.declared.node_store.NodeStore.{NodeStore}
-use Rattle.collect.proofs.Copying.{ready_over, grows_over}
 use Rattle.build.proofs.Steps.{get_or_in}
+use Rattle.build.proofs.Grown.{ready_in}
 use Rattle.pegs.specs.Held.{peg_chart, pegs_of, peg_fine, pegs_in, Held, CopiesPeg, Swept}
 
 -- Pegs
@@ -81,7 +81,7 @@ module _ (source spare new : NodeStore) (old pegs : List (Option Edge)) (i : ℕ
   shape = shape_in source
 
   store : Store (nodes_in spare) shape
-  store = (ready_over source spare w.alike.shape).store
+  store = (ready_in source spare (sym w.alike.shape)).store
 
   next_is : get_or pegs i None ≡ get_or old i None
   next_is = ap (λ n. get_or pegs n None) (let z : i ≡ i + 0 = omega arith in z) ∙ sym (get_or-drop i pegs 0 None) ∙ ap (λ t. get_or t 0 None) w.rest ∙ get_or-drop i old 0 None ∙ ap (λ n. get_or old n None) (let z : i + 0 ≡ i = omega arith in z)
@@ -94,11 +94,11 @@ module _ (source spare new : NodeStore) (old pegs : List (Option Edge)) (i : ℕ
 
   -- one peg more, given its copy in a store that has grown by its parts
   more : (r : Option Edge) → shape ≡ shape_in new → Kept (nodes_in spare) (nodes_in new) → length (nodes_in new) ≡ length (nodes_in spare) → Owned (nodes_in new) shape (charts (pegs_in source old)) → peg_fine (nodes_in new) shape r → peg_chart (nodes_in new) shape r ≡ peg_chart (nodes_in source) shape (get_or pegs i None) → Swept source new old (set pegs i r) (i + 1)
-  more r alike kept size owned fine is =
+  more r still kept size owned fine is =
       let all = peg_fine (nodes_in new) shape in
       let first = pegs_fine_kept (nodes_in spare) (nodes_in new) shape store kept (take i pegs) w.fine in
       record {
-        alike = record { shape = alike; size = size ∙ w.alike.size };
+        alike = record { shape = still; size = size ∙ w.alike.size };
         owned = owned;
         fine = subst (AllByRecursion all) (sym (take_more_set pegs i r il)) (recursion_from_All all (take i pegs ++ r ∷ []) (All-push all (take i pegs) r (All-from_recursion all (take i pegs) first) fine));
         same =
@@ -110,12 +110,12 @@ module _ (source spare new : NodeStore) (old pegs : List (Option Edge)) (i : ℕ
         long = lib.ListN.length-set pegs i r ∙ w.long;
       }
 
-  module _ (e : Edge) (at : get_or pegs i None ≡ Some e) (g : Grew spare new 0 (chart (nodes_in source) shape e)) where
+  module _ (e : Edge) (at : get_or pegs i None ≡ Some e) (g : Grew spare new 0 (chart (nodes_in source) (shape_in spare) e)) where
     still : shape ≡ shape_in new
     still = w.alike.shape ∙ sym g.same
 
     here : Grows (nodes_in spare) (nodes_in new) shape 0 (chart (nodes_in source) shape e)
-    here = grows_over source spare w.alike.shape new 0 (chart (nodes_in source) shape e) g
+    here = subst (λ s. Grows (nodes_in spare) (nodes_in new) s 0 (chart (nodes_in source) s e)) (sym w.alike.shape) g.grows
 
     e_in : In (chart (nodes_in source) shape e) (charts (pegs_in source old))
     e_in = chart_in (nodes_in source) shape old e (subst (λ p. In p old) at next_old)
@@ -140,12 +140,12 @@ module _ (source spare new : NodeStore) (old pegs : List (Option Edge)) (i : ℕ
         (st.0, ap (some late) st.1 ∙ (subst (λ p. peg_fine (nodes_in source) shape p) at next_fine).1)
         (ap {B = Option Chart} Some st.1 ∙ sym (ap (peg_chart (nodes_in source) shape) at))
 
-  pub swept_more : (r : Option Edge) → CopiesPeg source spare new (get_or pegs i None) r → Swept source new old (set pegs i r) (i + 1)
+  pub swept_more : (r : Option Edge) → CopiesPeg (nodes_in source) spare new (get_or pegs i None) r → Swept source new old (set pegs i r) (i + 1)
   swept_more r h = go (get_or pegs i None) refl h
     where
-      go : (p : Option Edge) → get_or pegs i None ≡ p → CopiesPeg source spare new p r → Swept source new old (set pegs i r) (i + 1)
+      go : (p : Option Edge) → get_or pegs i None ≡ p → CopiesPeg (nodes_in source) spare new p r → Swept source new old (set pegs i r) (i + 1)
       go None at c =
           let back = sym c.0 in
           more r (w.alike.shape ∙ ap shape_in back) (subst (λ (n : NodeStore). Kept (nodes_in spare) (nodes_in n)) back (λ k x q. q)) (ap (λ (n : NodeStore). length (nodes_in n)) c.0) (subst (λ (n : NodeStore). Owned (nodes_in n) shape (charts (pegs_in source old))) back w.owned)
           (subst (peg_fine (nodes_in new) shape) (sym c.1) tt) (ap (peg_chart (nodes_in new) shape) c.1 ∙ sym (ap (peg_chart (nodes_in source) shape) at))
-      go (Some e) at c = copied e at c.0 r c.1
+      go (Some e) at c = copied e at c.0 r (subst (λ s. Built (nodes_in new) s 0 (chart (nodes_in source) s e) r) (sym w.alike.shape) c.1)

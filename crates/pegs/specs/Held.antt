@@ -35,6 +35,7 @@ pub record Alike (a b : NodeStore) : Type 0 where
 abbrev pub pegs_in : NodeStore → List (Option Edge) → Pegs
 pegs_in store pegs = pegs_of (nodes_in store) (shape_in store) pegs
 
+-- each peg is bare, or carries a fine edge without late times
 pub record Held (store : NodeStore) (pegs : List (Option Edge)) : Type 0 where
   pub fine : AllByRecursion (peg_fine (nodes_in store) (shape_in store)) pegs
 
@@ -46,9 +47,9 @@ pub record Collected (source spare : NodeStore) (old pegs : List (Option Edge)) 
   pub owned : Owned (nodes_in spare) (shape_in source) (charts (pegs_in source old))
 
 -- what a peg carries is copied, or there was no room
-abbrev pub CopiesPeg : NodeStore → NodeStore → NodeStore → Option Edge → Option Edge → Type 0
+abbrev pub CopiesPeg : List (Option Node) → NodeStore → NodeStore → Option Edge → Option Edge → Type 0
 CopiesPeg source old new None r = (new ≡ old) × (r ≡ None)
-CopiesPeg source old new (Some e) r = Grew old new 0 (chart (nodes_in source) (shape_in source) e) × Built (nodes_in new) (shape_in source) 0 (chart (nodes_in source) (shape_in source) e) r
+CopiesPeg source old new (Some e) r = Grew old new 0 (chart source (shape_in old) e) × Built (nodes_in new) (shape_in old) 0 (chart source (shape_in old) e) r
 
 -- the first i pegs are copied
 pub record Swept (source spare : NodeStore) (old pegs : List (Option Edge)) (i : ℕ) : Type 0 where

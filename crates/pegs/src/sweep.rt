@@ -1,4 +1,5 @@
 ghost use Rattle.std.specs.Prelude.{◌≡◌};
+ghost use Rattle.store.specs.Stores.{Store};
 ghost use Rattle.build.specs.Grew.{nodes_in, shape_in};
 ghost use Rattle.collect.specs.Copies.{Moved};
 ghost use Rattle.pegs.specs.Held.{Alike, Held, Collected, Swept, peg_fine, CopiesPeg};
@@ -7,18 +8,19 @@ use build::node_store::NodeStore;
 use collect::copy::copy;
 use collect::moved::forget;
 use nodes::edge::Edge;
+use nodes::node::Node;
 
 /// What a peg carries, copied into another store; a bare peg stays bare.
 fn copy_peg(
-    source: &NodeStore,
+    source: &[Option<Node>],
     spare: &mut NodeStore,
     moved: &mut [Option<u16>],
     peg: Option<Edge>,
 ) -> Option<Edge>
-    requires alike { shape_in source.now ≡ shape_in spare.old }
-    requires moved { Moved (nodes_in source.now) (nodes_in spare.old) (shape_in source.now) moved.old }
-    requires fine { peg_fine (nodes_in source.now) (shape_in source.now) peg }
-    ensures moved { Moved (nodes_in source.now) (nodes_in spare.new) (shape_in source.now) moved.new }
+    requires store { Store source.now (shape_in spare.old) }
+    requires moved { Moved source.now (nodes_in spare.old) (shape_in spare.old) moved.old }
+    requires fine { peg_fine source.now (shape_in spare.old) peg }
+    ensures moved { Moved source.now (nodes_in spare.new) (shape_in spare.old) moved.new }
     ensures copies { CopiesPeg source.now spare.old spare.new peg result }
 {
     copy(source, spare, moved, 0, peg?)
@@ -37,7 +39,7 @@ fn copy_pegs(
     ensures { Collected source.now spare.new pegs.old pegs.new }
 {
     for peg in pegs.iter_mut() {
-        *peg = copy_peg(source, spare, moved, *peg);
+        *peg = copy_peg(source.as_slice(), spare, moved, *peg);
     }
 }
 

@@ -1,4 +1,5 @@
--- lemmas about the walk along a way: Striding, OfWalks; about what the rule leaves: Ruled; about what is answered: Outcomes
+-- lemmas about the walk along a way: Finding, Striding, OfWalks; about what the rule leaves: Ruled; about what is answered: Outcomes
+pub mod Finding
 pub mod Striding
 pub mod OfWalks
 pub mod Ruled

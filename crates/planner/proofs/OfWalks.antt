@@ -1,6 +1,11 @@
 -- The walk along a plan, as the code takes it. Assumes nothing.
-use Rattle.std.proofs.Common.{◌≡◌, ℕ, zero, suc, ◌+◌, ◌<◌, ◌≤◌, ◌⊎◌, List, [], ◌∷◌, ◌++◌, map, length, get_or, set, Some, None, Option, sym, refl, ap, ◌∙◌, subst, inl, inr, ⊎_elim, arith, below_more}
+use Rattle.std.proofs.Common.{◌≡◌, ℕ, zero, suc, ◌+◌, ◌<◌, ◌≤◌, ◌⊎◌, true, List, [], ◌∷◌, ◌++◌, map, length, get_or, set, Some, None, Option, sym, refl, ap, ◌∙◌, subst, inl, inr, ⊎_elim, arith}
+use Rattle.std.proofs.Math.Logic.{∥∥₁_elim}
+use mathlib.Core.HLevel.{⊥_prop}
 use Rattle.std.specs.List.{AllByRecursion}
+use Rattle.std.specs.Fn.{Called}
+use Rattle.std.specs.Option.{MatchOption, is_some}
+use Rattle.std.proofs.lemmas.Option.{none-some}
 use Rattle.std.proofs.lemmas.List.{append_assoc, append-nil}
 use Rattle.lists.specs.Shorts.{listed}
 use Rattle.model.specs.Scenes.{SceneOf}
@@ -18,11 +23,14 @@ use Rattle.theory.proofs.Best.{walks_best}
 use Rattle.theory.proofs.Greedy.{walk_found}
 use Rattle.theory.proofs.Tabling.{table_numbered, tables_lawful}
 use Rattle.theory.proofs.Told.{contents_told}
+use Rattle.rounds.proofs.Leaving.{seen_length}
 use Rattle.moves.specs.declared.entry.Move.{Move}
 use Rattle.moves.specs.Views.{slot_of}
 use Rattle.planner.specs.declared.point.Point.{Point}
 use Rattle.planner.specs.declared.point.Stride.{Stride}
-use Rattle.planner.specs.Walking.{first_peg, Ready, Stands, Leads, Led, Strides, written, Taken, Walked}
+use Rattle.planner.specs.Walking.{first_peg, Ready, Stands, Leads, Led, Strode, Strides, written, Taken, Walked}
+use Rattle.planner.proofs.Finding.{FirstBelow, FindsFirst, first_below}
+use denote.Param.Members.{Mut}
 
 -- The slots, as the code reads them
 
@@ -42,31 +50,32 @@ all_at P (x ∷ xs) zero d h all = all.0
 all_at P (x ∷ xs) (suc i) d h all = all_at P xs i d (omega arith) all.1
 
 module _ (c : Contents) (xs : List (Option Move)) (seen : map slot_of xs ≡ c.slots) where
-  pub numbered_seen : (i : ℕ) (x : Option Move) → i < length xs → x ≡ get_or xs i x → numbered (table_of c.slots) i ≡ action_in (slot_of x)
-  numbered_seen i x h e = table_numbered c.slots i ∙ ap (λ ms. action_in (get_or ms i None)) (sym seen) ∙ ap action_in (at_place xs i x h e)
+  pub numbered_seen : (i : ℕ) (x o : Option Move) → i < length xs → x ≡ get_or xs i x → o ≡ x → numbered (table_of c.slots) i ≡ action_in (slot_of o)
+  numbered_seen i x o h e same =
+      table_numbered c.slots i ∙ ap (λ ms. action_in (get_or ms i None)) (sym seen) ∙ ap action_in (at_place xs i x h e)
+      ∙ ap (λ y. action_in (slot_of y)) (sym same)
 
-  pub lawful_seen : Lawful c → (i : ℕ) (x : Option Move) → length xs ≡ length c.slots → i < length xs → x ≡ get_or xs i x → LawfulSlot c.settings (slot_of x)
-  lawful_seen law i x long h e =
-      subst (LawfulSlot c.settings) (ap (λ ms. get_or ms i None) (sym seen) ∙ at_place xs i x h e)
+  pub lawful_seen : Lawful c → (i : ℕ) (x o : Option Move) → length xs ≡ length c.slots → i < length xs → x ≡ get_or xs i x → o ≡ x → LawfulSlot c.settings (slot_of o)
+  lawful_seen law i x o long h e same =
+      subst (LawfulSlot c.settings) (ap (λ ms. get_or ms i None) (sym seen) ∙ at_place xs i x h e ∙ ap slot_of (sym same))
       (all_at (LawfulSlot c.settings) c.slots i None (omega arith) (contents_told c law).each_slot)
 
 -- The next move
 
 module _ (c : Contents) (m : Meaning) (p : Point) where
+  -- what the move of a number was asked, by its slot
+  pub strode_none : (n : ℕ) (o : Option Action) → numbered (table_of c.slots) n ≡ o → Led c m p o None → Strode c m p n None
+  strode_none n o e led h = led (ap (λ a. through a (first_peg c m) (listed p.scene)) (sym e) ∙ h)
+
+  pub strode_some : (n : ℕ) (o : Option Action) (q : Point) → numbered (table_of c.slots) n ≡ o → Led c m p o (Some q) → Strode c m p n (Some (record { number = n; end = q }))
+  strode_some n o q e led = (refl, subst (λ a. Leads c m p a q) (sym e) led)
+
+  pub strode_vacant : (n : ℕ) → numbered (table_of c.slots) n ≡ None → Strode c m p n None
+  strode_vacant n e = strode_none n None e (λ h. none-some _ h)
+
   -- no move of a number below n keeps the time
   abbrev pub NoneBelow : ℕ → Type 0
-  NoneBelow n = (j : ℕ) → j < n → through (numbered (table_of c.slots) j) (first_peg c m) (listed p.scene) ≡ Some p.left → ⊥
-
-  pub none_more : (n : ℕ) (o : Option Action) → numbered (table_of c.slots) n ≡ o → NoneBelow n → Led c m p o None → NoneBelow (n + 1)
-  none_more n o e below here =
-      below_more (λ j. through (numbered (table_of c.slots) j) (first_peg c m) (listed p.scene) ≡ Some p.left → ⊥) n below
-      (λ h. here (ap (λ a. through a (first_peg c m) (listed p.scene)) (sym e) ∙ h))
-
-  pub strides : (n : ℕ) (o : Option Action) (q : Point) → numbered (table_of c.slots) n ≡ o → NoneBelow n → Led c m p o (Some q) → Strides c m p (record { number = n; end = q })
-  strides n o q e below here = record { leads = subst (λ a. Leads c m p a q) (sym e) here; smallest = below }
-
-  never_time : (t : ℕ) → None ≡ Some t → ⊥
-  never_time t e = let z : ◌≡◌ {A = ℕ} 0 1 = cc in absurd (omega arith)
+  NoneBelow n = (j : ℕ) → j < n → Strode c m p j None
 
   none_at_all : (n : ℕ) → length c.slots ≤ n → NoneBelow n → (j : ℕ) → through (numbered (table_of c.slots) j) (first_peg c m) (listed p.scene) ≡ Some p.left → ⊥
   none_at_all n le below j h = go (split j n)
@@ -79,7 +88,7 @@ module _ (c : Contents) (m : Meaning) (p : Point) where
       go : (j < n) ⊎ (n ≤ j) → ⊥
       go (inl l) = below j l h
       go (inr l) =
-          never_time p.left (sym (ap (λ a. through a (first_peg c m) (listed p.scene)) (table_numbered c.slots j ∙ ap action_in (past_all c.slots j (omega arith)))) ∙ h)
+          none-some p.left (sym (ap (λ a. through a (first_peg c m) (listed p.scene)) (table_numbered c.slots j ∙ ap action_in (past_all c.slots j (omega arith)))) ∙ h)
 
   -- from a scene with a time above 0 some move keeps it
   pub some_move : Ready c m → Stands c m p → 0 < p.left → (n : ℕ) → length c.slots ≤ n → NoneBelow n → ⊥
@@ -95,6 +104,22 @@ module _ (c : Contents) (m : Meaning) (p : Point) where
       go : (is : List ℕ) → Greedy (table_of c.slots) (first_peg c m) is (listed p.scene) → ⊥
       go [] g = zero_left (sym stands.timed ∙ g)
       go (i ∷ is) g = none_at_all n le below i (ap (λ a. through a (first_peg c m) (listed p.scene)) g.1 ∙ g.2 ∙ stands.timed)
+
+  -- so the first number that answers is the next move's
+  next_is : ∥ Ready c m ∥₁ → Stands c m p → 0 < p.left → (n : ℕ) → length c.slots ≤ n → (r : Option Stride) → FirstBelow (Strode c m p) n r → MatchOption r ⊥ (Strides c m p)
+  next_is ready stands far n le None below = ∥∥₁_elim ready ⊥_prop (λ k. some_move k stands far n le below)
+  next_is ready stands far n le (Some x) (i, (number, leads), below) =
+      record { leads = subst (λ j. Leads c m p (numbered (table_of c.slots) j) x.end) (sym number) leads; smallest = λ j lt. below j (omega (arith, number)) }
+
+  pub next_found : ∥ Ready c m ∥₁ → Stands c m p → 0 < p.left → (xs : List (Option Move)) → map slot_of xs ≡ c.slots
+      → {F : Type 0} {g : Mut F (ℕ × Unit {0}) (Option Stride)} {f : F} → ((n : ℕ) (o : Option Stride) (q : F) → Called g f (n, tt) o q → (q ≡ f) × Strode c m p n o)
+      → (r : Option Stride) → FindsFirst g f (length xs) r → MatchOption r ⊥ (Strides c m p)
+  next_found ready stands far xs seen gives r found =
+      next_is ready stands far (length xs) (omega (arith, seen_length slot_of xs c.slots seen)) r (first_below _ _ (Strode c m p) gives (length xs) r found)
+
+  pub one_is : (r : Option Stride) → MatchOption r ⊥ (Strides c m p) → is_some r ≡ true
+  one_is None h = absurd h
+  one_is (Some x) h = refl
 
 -- The whole walk
 
@@ -169,9 +194,3 @@ walked_best c m ready time timed old n new w =
       counted = w.counted;
       filled = w.filled;
     }
-
--- past the end nothing is set
-pub set_past : (xs : List ℕ) (i x : ℕ) → length xs ≤ i → xs ≡ set xs i x
-set_past [] i x h = refl
-set_past (y ∷ ys) zero x h = absurd (omega arith)
-set_past (y ∷ ys) (suc i) x h = ap (λ zs. y ∷ zs) (set_past ys i x (omega arith))

@@ -1,10 +1,10 @@
 -- Where a move leads, and whether it loses no time. Assumes nothing.
 use Rattle.std.proofs.Common.{◌≡◌, ℕ, ◌+◌, ◌-◌, ◌≤◌, ◌==◌, Bool, true, false, cond, not, eqb, leb, List, [], ◌∷◌, length, Some, None, Ok, Err, Result, sym, refl, ap, ◌∙◌, subst, arith}
 use Rattle.std.proofs.Math.Logic.{∥∥₁_elim}
-use mathlib.Core.Bool.{Bool-set}
 use mathlib.Core.List.{is_set}
 use native.Mathlib.Nat.{ℕ_set}
 use Rattle.std.proofs.lemmas.Bool.{lt-leb}
+use Rattle.std.proofs.lemmas.Option.{none-some, same_Some}
 use Rattle.std.specs.Bool.{then_some, Decides}
 use Rattle.std.proofs.lemmas.Bool.Decides.{nat_tests, Decides-eqb}
 use Rattle.lists.specs.Shorts.{listed}
@@ -51,18 +51,9 @@ answered (Err f) x e = absurd (err_is_not_ok _ _ e)
 pub ready_shape : {c : Contents} {m : Meaning} → ∥ Ready c m ∥₁ → m.shape ≡ c.settings
 ready_shape h = ∥∥₁_elim h (is_set ℕ_set _ _) (λ r. r.shape)
 
-pub ready_hung : {c : Contents} {m : Meaning} → ∥ Ready c m ∥₁ → bare m.pegs 0 ≡ false
-ready_hung h = ∥∥₁_elim h (Bool-set _ _) (λ r. r.hung)
-
 -- what was said of a slice holds of what it lends
 pub said_of : (b : Bool) (s s' : Scene) (ps ps' : List model.Pair) → s' ≡ s → ps' ≡ ps → b ≡ all_hold s' ps' → all_hold s ps ≡ b
 said_of b s s' ps ps' es eps h = sym (h ∙ ap (λ t. all_hold t ps') es ∙ ap (all_hold s) eps)
-
-pub none_is_not : {X : Type 0} (x : X) → None ≡ Some x → ⊥
-none_is_not x e = let z : ◌≡◌ {A = ℕ} 0 1 = cc in absurd (omega arith)
-
-some_is : {X : Type 0} (x y : X) → Some x ≡ Some y → x ≡ y
-some_is x y e = cc
 
 module _ (c : Contents) (m : Meaning) (p : Point) (stands : Stands c m p) (a : model.Move) (law : LawfulMove c.settings a) where
   abbrev v : Scene → Time
@@ -77,8 +68,8 @@ module _ (c : Contents) (m : Meaning) (p : Point) (stands : Stands c m p) (a : m
   module _ (met : all_hold (listed p.scene) a.conditions ≡ true) where
     -- what is left after it
     later_is : (o : Time) → later (time a (listed p.scene)) o ≡ Some p.left → (u : ℕ) × (o ≡ Some u) × (time a (listed p.scene) + u ≡ p.left)
-    later_is None e = absurd (none_is_not _ e)
-    later_is (Some u) e = (u, refl, some_is _ _ e)
+    later_is None e = absurd (none-some _ e)
+    later_is (Some u) e = (u, refl, same_Some _ _ e)
 
     pub next_within : SceneOf c.settings next
     next_within = (lawful_action c.settings a law).keeps (listed p.scene) stands.within met
@@ -113,7 +104,7 @@ module _ (c : Contents) (m : Meaning) (p : Point) (stands : Stands c m p) (a : m
       where
         go : (b : Bool) → Decides b (u ≡ q.left) → Led c m p (Some (action_of a)) (then_some b q)
         go true d = leads q e le is (after ∙ ap Some (d.0 refl))
-        go false d = loses (Some u) after (λ z. let y : ◌≡◌ {A = Bool} false true = d.1 (some_is _ _ z ∙ sym is) in let n : ◌≡◌ {A = ℕ} 0 1 = cc in absurd (omega arith))
+        go false d = loses (Some u) after (λ z. let y : ◌≡◌ {A = Bool} false true = d.1 (same_Some _ _ z ∙ sym is) in let n : ◌≡◌ {A = ℕ} 0 1 = cc in absurd (omega arith))
 
 -- peg 0 in the words of the shelf's own shape
 pub first_peg_is : (c : Contents) (m : Meaning) → m.shape ≡ c.settings → (s t : Scene) (o : Time) → s ≡ t → o ≡ at m.shape (on m.pegs 0) s → first_peg c m t ≡ o

@@ -44,6 +44,11 @@ abbrev pub Led : Contents → Meaning → Point → Option Action → Option Poi
 Led c m p a None = through a (first_peg c m) (listed p.scene) ≡ Some p.left → ⊥
 Led c m p a (Some q) = Leads c m p a q
 
+-- o is the stride by the move of the number n, if it loses no time
+abbrev pub Strode : Contents → Meaning → Point → ℕ → Option Stride → Type 0
+Strode c m p n None = through (numbered (table_of c.slots) n) (first_peg c m) (listed p.scene) ≢ Some p.left
+Strode c m p n (Some x) = (x.number ≡ n) × Leads c m p (numbered (table_of c.slots) n) x.end
+
 -- the move of the smallest number that loses no time
 pub record Strides (c : Contents) (m : Meaning) (p : Point) (x : Stride) : Type 0 where
   pub leads : Leads c m p (numbered (table_of c.slots) x.number) x.end

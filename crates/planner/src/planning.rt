@@ -21,7 +21,7 @@ fn clear<S: Shelf>(shelf: &mut S)
     ensures left { S.meaning shelf.new ≡ cleared (S.meaning shelf.old) }
 {
     for peg in 0..WORK_PEGS {
-        let _ = shelf.wipe(peg);
+        shelf.wipe(peg).unwrap();
     }
 }
 

@@ -4,11 +4,11 @@ ghost use Rattle.lists.specs.Shorts.{listed};
 ghost use Rattle.model.specs.Charts.{at};
 ghost use Rattle.model.specs.Scenes.{SceneOf};
 ghost use Rattle.model.specs.Shelves.{on, bare};
-ghost use Rattle.theory.specs.Tables.{action_of, action_in};
-ghost use Rattle.theory.specs.Wellformed.{LawfulMove, LawfulSlot};
+ghost use Rattle.theory.specs.Tables.{action_of};
+ghost use Rattle.theory.specs.Wellformed.{LawfulMove};
 ghost use Rattle.rig.specs.Rigs.{contents};
-ghost use Rattle.moves.specs.Views.{move_of, slot_of};
-ghost use Rattle.planner.specs.Walking.{first_peg, Ready, Stands, Led, Strides, Taken};
+ghost use Rattle.moves.specs.Views.{move_of};
+ghost use Rattle.planner.specs.Walking.{first_peg, Ready, Stands, Led, Strode, Strides, Taken};
 
 use crate::point::*;
 use lists::limits::MOST_DEVICES;
@@ -76,13 +76,18 @@ impl<'a, S: Shelf> Walk<'a, S> {
         (after == left).then_some(Point { scene: next, left })
     }
 
-    /// Where the move of a slot leads, if there is one that may be made and loses no time.
-    fn led(&self, point: &Point, slot: &Option<Move>) -> Option<Point>
+    /// The stride by the move of a number, if there is one that may be made and loses no time.
+    fn stride_by(&self, point: &Point, number: usize) -> Option<Stride>
         requires stands { Stands (contents self.now.rig.now) (S.meaning self.now.shelf.now) point.now }
-        requires lawful { LawfulSlot (contents self.now.rig.now).settings (slot_of slot.now) }
-        ensures led { Led (contents self.now.rig.now) (S.meaning self.now.shelf.now) point.now (action_in (slot_of slot.now)) result }
+        ensures strode { Strode (contents self.now.rig.now) (S.meaning self.now.shelf.now) point.now number result }
     {
-        self.led_by_move(point, slot.as_ref()?)
+        let entry = self.rig.slots().get(number)?.as_ref()?;
+        let end = self.led_by_move(point, entry)?;
+        Some(Stride {
+            // A cast: a number of a slot is below 255.
+            number: number as u8,
+            end,
+        })
     }
 
     /// The move of the smallest number that loses no time, and where it leads.
@@ -91,17 +96,9 @@ impl<'a, S: Shelf> Walk<'a, S> {
         requires far { 0 < point.now.left }
         ensures strides { Strides (contents self.now.rig.now) (S.meaning self.now.shelf.now) point.now result }
     {
-        // A loop: of `find_map` in its place, whose closure asks that each slot is lawful, the proof was not found.
-        for (number, slot) in self.rig.slots().iter().enumerate() {
-            // A cast: a number of a slot is below 255.
-            if let Some(end) = self.led(point, slot) {
-                return Stride {
-                    number: number as u8,
-                    end,
-                };
-            }
-        }
-        unreachable()
+        (0..self.rig.slots().len())
+            .find_map(|number| self.stride_by(point, number))
+            .unwrap()
     }
 
     /// Takes the walk, writes the numbers of its moves as far as the sheet goes, and answers how many they are.

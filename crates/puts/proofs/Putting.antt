@@ -1,4 +1,4 @@
--- The steps of putting a pair, over plain values. Assumes nothing.
+-- The steps of putting a pair: an edge at its device and above it, and its kids in a store that grows. Assumes nothing.
 use Rattle.std.proofs.Common.{◌≡◌, ℕ, suc, ◌+◌, ◌-◌, ◌*◌, ◌<◌, ◌≤◌, false, List, [], length, get_or, take, drop, set, Some, None, Option, sym, refl, zero-add, ap, ◌∙◌, subst, arith, length-drop}
 use Rattle.std.specs.List.{range_with_len, flat_map}
 use Rattle.std.proofs.lemmas.List.{drop_more, get_or-take, get_or-drop}

@@ -1,10 +1,12 @@
 -- What a call answers and leaves, by the fault that it met. Assumes nothing.
-use Rattle.std.proofs.Common.{◌≡◌, ℕ, List, ◌++◌, Ok, Err, Option, Result, IsErrAnd, sym, ap, ◌∙◌}
+use Rattle.std.proofs.Common.{◌≡◌, ℕ, List, ◌++◌, Ok, Err, Option, Result, IsErrAnd, sym, ap, subst, ◌∙◌}
 use Rattle.std.proofs.lemmas.Result.{err_from_is_err_and}
 use Rattle.model.specs.Scenes.{Shape}
 use Rattle.model.specs.Moves as model
 use Rattle.model.specs.Refusals.{Check, answer, left_by}
 use Rattle.model.specs.Contents.{Contents}
+use Rattle.model.specs.Calls.{Lawful, performed}
+use Rattle.theory.proofs.Keeping.{calls_keep}
 use Rattle.model.proofs.Refusing.{accepted_first, left_err}
 use Rattle.moves.specs.declared.fault.RigFault.{RigFault}
 use Rattle.moves.specs.Faults.{number, numbered}
@@ -25,3 +27,7 @@ then_judged c first checks {xs} {ns} {r} seen shape passed e =
     accepted_first (first c.slots) (checks c.settings) tt tt tt (ap (λ (l : List (Option model.Move)). answer (first l) tt) (sym seen) ∙ passed)
     ∙ ap (λ (k : Shape). answer (checks k) tt) (sym shape)
     ∙ e
+
+-- what a perform leaves is lawful
+pub performed_lawful : (c : Contents) → Lawful c → (n : ℕ) (d : Contents) → d ≡ performed c n → Lawful d
+performed_lawful c law n d left = subst Lawful (sym left) ((calls_keep c law).perform n)

@@ -11,6 +11,13 @@ use nodes::edge::Edge;
 use nodes::node::Node;
 
 impl NodeStore {
+    /// The slots, each free or with a node.
+    pub fn as_slice(&self) -> &[Option<Node>]
+        ensures value { result.now ≡ nodes_in self.now }
+    {
+        self.nodes.as_slice()
+    }
+
     /// The node in a slot; a free slot stands for a node without times.
     pub fn node_at(&self, slot: u16) -> Node
         ensures value { result ≡ stores.node_at (nodes_in self.now) slot }

@@ -1,5 +1,5 @@
 use Rattle.std.proofs.Common.{Some, subst}
-use Rattle.build.specs.Grew.{nodes_in, shape_in}
+use Rattle.build.specs.Grew.{shape_in}
 use Rattle.collect.proofs.Copying.{chart_below}
 use Rattle.pegs.specs.Held.{peg_fine}
 use Rattle.pegs.proofs.sweep.copy_peg.Goals as goal
@@ -7,6 +7,7 @@ use Rattle.pegs.proofs.sweep.copy_peg.Goals as goal
 pub copy-requires-clause-timely : goal.copy-requires-clause-timely
 copy-requires-clause-timely c =
     let source = c.args.source.now in
+    let shape = shape_in c.args.spare.now in
     let e = c.in_ok-peg.field-0 in
-    let fine : peg_fine (nodes_in source) (shape_in source) (Some e) = subst (peg_fine (nodes_in source) (shape_in source)) c.in_ok-peg.was c.requires.fine in
-    chart_below (nodes_in source) (shape_in source) source.ready.store 0 e fine.0 fine.1
+    let fine : peg_fine source shape (Some e) = subst (peg_fine source shape) c.in_ok-peg.was c.requires.fine in
+    chart_below source shape c.requires.store 0 e fine.0 fine.1

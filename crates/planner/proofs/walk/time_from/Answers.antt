@@ -4,8 +4,3 @@ use Rattle.planner.proofs.walk.time_from.Goals as goal
 
 pub unwrap-requires : goal.unwrap-requires
 unwrap-requires g c = ap is_ok (answered c.at.result _ (c.at.ensures.answer ∙ reads_time (g.S.Shelf.meaning c.args.shelf.now) c.args.scene.now c.requires.hung c.requires.within))
-
-pub returns : goal.returns
-returns g c =
-    let said = answered c.at.result _ (c.at.ensures.answer ∙ reads_time (g.S.Shelf.meaning c.args.shelf.now) c.args.scene.now c.requires.hung c.requires.within) in
-    record { value = cc }

@@ -1,5 +1,5 @@
-use Rattle.std.proofs.Common.{◌≡◌, ℕ, ◌+◌, ◌<◌, ◌≤◌, List, [], ◌∷◌, ◌++◌, map, length, get_or, take, drop, set, sym, ap, ◌∙◌, subst, append_assoc, arith}
-use Rattle.std.proofs.lemmas.List.{drop_more, take_more, set_at, length-take-le, length-map, map-append, take_all, append-nil, at_drop_all}
+use Rattle.std.proofs.Common.{◌≡◌, ℕ, ◌+◌, ◌<◌, List, [], ◌∷◌, ◌++◌, map, length, get_or, take, drop, set, sym, ap, ◌∙◌, subst, append_assoc, arith}
+use Rattle.std.proofs.lemmas.List.{drop_more, take_more, set_at, length-take-le, length-map, map-append}
 use Rattle.lists.specs.Shorts.{listed}
 use Rattle.model.specs.Masks.{all_of}
 use Rattle.rig.proofs.open.all_masks.Goals as goal
@@ -12,10 +12,6 @@ mask_more f ns i lt =
     ∙ sym (append_assoc (map f (take i ns)) (f (get_or ns i 0) ∷ []) (drop (i + 1) ns))
     ∙ ap (λ (t : List ℕ). t ++ drop (i + 1) ns) (sym (map-append f (take i ns) (get_or ns i 0 ∷ [])) ∙ ap (map f) (sym (take_more ns i 0 lt)))
 
-masks_all : (f : ℕ → ℕ) (ns : List ℕ) (i : ℕ) → length ns ≤ i → map f (take i ns) ++ drop i ns ≡ map f ns
-masks_all f ns i le =
-    ap (λ (t : List ℕ). map f (take i ns) ++ t) (at_drop_all (λ (t : List ℕ). t) ns i le) ∙ append-nil (map f (take i ns)) ∙ ap (map f) (take_all i ns le)
-
 pub loop-device-preserved : goal.loop-device-preserved
 loop-device-preserved c =
     let ns = listed c.args.settings.now in
@@ -26,9 +22,3 @@ loop-device-preserved c =
     ∙ ap (λ (l : List ℕ). set l i c.mask_of_all.result) c.loop-device.invariant
     ∙ ap (λ (m : ℕ). set (map all_of (take i ns) ++ drop i ns) i m) (c.mask_of_all.ensures ∙ ap (λ (l : List ℕ). all_of (get_or l i 0)) value)
     ∙ mask_more all_of ns i lt
-
-pub returns : goal.returns
-returns c =
-    let ns = listed c.args.settings.now in
-    let le : length ns ≤ c.loop-device.device = subst (λ (l : List ℕ). length l ≤ c.loop-device.device) c.as_slice-count-items.ensures.value c.loop-device-test.false in
-    c.loop-device.invariant ∙ masks_all all_of ns c.loop-device.device le

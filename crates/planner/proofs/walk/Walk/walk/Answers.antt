@@ -7,15 +7,6 @@ pub loop-point-init : goal.loop-point-init
 loop-point-init g c =
     way_begun (contents c.args.self.now.rig.now) (g.S.Shelf.meaning c.args.self.now.shelf.now) c.args.self.now.rig.now.lawful c.args.time c.args.sheet.now c.beginning-point.result c.beginning-point.ensures.scene c.beginning-point.ensures.left c.requires.timed
 
-pub next_stride-stride-requires : goal.next_stride-stride-requires
-next_stride-stride-requires g c = record { stands = c.loop-point.invariant.stands; far = c.loop-point-test.true }
-
-pub overflow_add-moves : goal.overflow_add-moves
-overflow_add-moves g c = omega (arith, c.loop-point.invariant.bound, c.loop-point-test.true, c.ranges.time.fits)
-
-pub loop-point-smaller : goal.loop-point-smaller
-loop-point-smaller g c = c.next_stride-stride.ensures.strides.leads.less
-
 pub loop-point-preserved : goal.loop-point-preserved
 loop-point-preserved g c =
     way_on (contents c.args.self.now.rig.now) (g.S.Shelf.meaning c.args.self.now.shelf.now) c.args.self.now.rig.now.lawful c.args.time c.args.sheet.now c.loop-point.point c.loop-point.moves c.loop-point.sheet c.note.new.sheet c.next_stride-stride.result
