@@ -1,3 +1,4 @@
 pub mod Placing
 pub mod Products
 pub mod Pairs
+pub mod Calling
