@@ -1,4 +1,4 @@
--- The steps of an attempt to hang a chart, over plain values. Assumes nothing.
+-- What pegs carry while the store grows, what an attempt to hang a chart leaves, and that no time of the chart is late. Assumes nothing.
 use Rattle.std.proofs.Common.{◌≡◌, ℕ, zero, suc, ◌-◌, ◌<◌, ◌≤◌, false, not, List, [], ◌∷◌, length, get_or, set, is_some, Some, None, Option, sym, refl, ap, ◌∙◌, subst, inl, arith}
 use Rattle.std.specs.List.{AllByRecursion, flat_map}
 use Rattle.std.proofs.lemmas.Bool.{both_ways}
