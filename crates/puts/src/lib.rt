@@ -38,8 +38,6 @@ pub fn put(diagrams: &mut Diagrams, level: usize, device: u8, setting: u8, e: Ed
 
 /// The edge for one at 0 that leads to a node above the device, which is looked up, or built and then remembered; none
 /// where no slot is free for one of its parts.
-// The kids by a loop, as for dials, copies and joins: `array::try_from_fn` says nothing of the store that its calls
-// leave, and for a function of our own a closure that calls `put` has to write out the clauses of `put` once more.
 #[cycle(putting)]
 fn put_below(
     diagrams: &mut Diagrams,
@@ -71,6 +69,8 @@ fn put_below(
     }
     let node = diagrams.store.node_at(child);
     let count = diagrams.store.count(level);
+    // By a loop, as for dials, copies and joins: `array::try_from_fn` says nothing of the store that its calls leave, and
+    // for a function of our own a closure that calls `put` has to write out the clauses of `put` once more.
     let mut kids = [NEVER; 8];
     for (i, kid) in node.edges[..count].iter().enumerate() {
         kids[i] = put(diagrams, level + 1, device, setting, *kid)?;
