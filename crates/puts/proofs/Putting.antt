@@ -1,39 +1,26 @@
--- An edge once a pair is put: at the device, above it, and kid by kid. Assumes nothing.
-use Rattle.std.proofs.Common.{◌≡◌, ℕ, suc, ◌+◌, ◌-◌, ◌*◌, ◌<◌, ◌≤◌, false, List, [], length, get_or, take, drop, set, Some, None, Option, sym, refl, zero-add, ap, ◌∙◌, subst, arith, length-drop}
-use Rattle.std.specs.List.{range_with_len, flat_map}
-use Rattle.std.proofs.lemmas.List.{drop_more, get_or-take, get_or-drop}
-use Rattle.std.proofs.lemmas.List.FromFn.{get_or-range_with_len}
-use Rattle.table.specs.Tables.{Kept}
+-- An edge once a pair is put: without times, at the device, and above it. Assumes nothing.
+use Rattle.std.proofs.Common.{◌≡◌, ℕ, ◌+◌, ◌-◌, ◌<◌, ◌≤◌, false, List, [], length, get_or, drop, Some, None, Option, sym, refl, ap, ◌∙◌, subst, arith}
+use Rattle.std.proofs.lemmas.List.{drop_more}
 use Rattle.nodes.specs.declared.edge.Edge.{Edge}
 use Rattle.nodes.specs.declared.node.Node.{Node}
-use Rattle.nodes.specs.declared.remembered.Key.{Key}
-use Rattle.nodes.specs.declared.remembered.Operation.TheVariants.{Put}
-use Rattle.model.specs.Charts.{Time, Chart, plus, put_chart, greatest, late}
+use Rattle.model.specs.Charts.{Chart, plus, put_chart, greatest, late}
 use Rattle.model.specs.Lists.{In, some}
 use Rattle.model.specs.Parts.{parts, pieces}
 use Rattle.model.specs.Scenes.{Shape, size}
-use Rattle.model.proofs.Charting.{put_length}
 use Rattle.model.proofs.Lateness.{late_tells, latest, legal_under}
 use Rattle.parts.specs.Shifts.{later}
 use Rattle.parts.proofs.Pieces.{parts_later}
-use Rattle.parts.proofs.Tabulated.{put_here, put_below, put_later, put_never}
+use Rattle.parts.proofs.Tabulated.{put_here, put_later, put_never}
 use Rattle.store.specs.Stores.{none_edge, node_at, chart, Fine, Store}
 use Rattle.store.specs.Fillings.{Stuck}
 use Rattle.store.proofs.Canon.{knows}
-use Rattle.store.proofs.Grows.{chart_kept, fine_kept}
 use Rattle.build.specs.declared.node_store.NodeStore.{NodeStore}
-use Rattle.build.specs.Builds.{raised, piece, spread_chart, Makeable, Spreadable, Built, together, Stands}
-use Rattle.build.specs.Grew.{nodes_in, shape_in, Grew, Begun}
+use Rattle.build.specs.Builds.{raised, piece, spread_chart, Spreadable, Stands}
+use Rattle.build.specs.Grew.{nodes_in, shape_in, Grew}
 use Rattle.build.proofs.Steps.{stuck_wider}
-use Rattle.build.proofs.Grown.{grew_alike, grew_next, stuck_next, begun_next, begun_makeable, grew_made, built_made}
-use Rattle.build.proofs.Spreads.{piece_at, made_long}
-use Rattle.build.proofs.Sides.{never_chart, piece_timely, earlier_timely, moved_fine, from_zero, raise_timely, raise_stands, side_formed, side_chart, side_fine, side_piece, side_kid_timely, side_timely}
-use Rattle.memo.specs.Results.{Right}
+use Rattle.build.proofs.Grown.{grew_alike}
+use Rattle.build.proofs.Sides.{never_chart, earlier_timely, moved_fine, from_zero, raise_timely, raise_stands, side_chart, side_fine, side_piece, side_kid_timely, side_timely}
 use Rattle.puts.specs.Puts.{goal, at_zero}
-
--- what the result for an edge at 0 is remembered under
-abbrev pub key_of : ℕ → ℕ → ℕ → ℕ → Key
-key_of l v d k = record { operation = Put v d; level = l; left = at_zero k; right = at_zero k }
 
 -- an edge without times stays as it is
 pub put_skipped : (nodes : List (Option Node)) (shape : Shape) → Store nodes shape → (l v d : ℕ) (e : Edge) → e.weight ≡ None → Fine nodes (drop l shape) l e → Stands nodes shape l (goal nodes shape l v d e) e
@@ -43,17 +30,8 @@ put_skipped nodes shape store l v d e none f =
     let is : c ≡ later None c = never_chart nodes ns e none in
     (f, is ∙ sym (put_never ns (v - l) d c (knows nodes shape store ns l e refl f).long) ∙ ap (put_chart ns (v - l) d) (sym is))
 
-raised_zero : (e : Edge) → raised (Some 0) e ≡ e
-raised_zero e = go e.weight refl
-  where
-    go : (w : Time) → e.weight ≡ w → raised (Some 0) e ≡ e
-    go None h = let p : plus (Some 0) e.weight ≡ e.weight = ap (plus (Some 0)) h ∙ sym h in λ i. record { weight = p i; child = e.child }
-    go (Some w) h = let p : plus (Some 0) e.weight ≡ e.weight = ap (plus (Some 0)) h ∙ ap {B = Time} Some (omega arith) ∙ sym h in λ i. record { weight = p i; child = e.child }
-
 pub goal_timely : (ns : Shape) (v d : ℕ) (c : Chart) → some late c ≡ false → some late (put_chart ns v d c) ≡ false
 goal_timely ns v d c h = legal_under (put_chart ns v d c) (greatest c) (latest.of_put ns v d c) (sym (late_tells c) ∙ h)
-
--- At the device, and above it
 
 -- what is known of an edge with the time w above the device v, or at it
 pub record Side (old : NodeStore) (l v d : ℕ) (e : Edge) (w : ℕ) : Type 0 where
@@ -142,149 +120,3 @@ module _ {old : NodeStore} {l v d : ℕ} {e : Edge} {w : ℕ} (s : Side old l v 
 
       pub raised_stands : (r : Edge) → r ≡ raised (Some w) k → Stands (nodes_in new) shape l whole r
       raised_stands r same = raise_stands (nodes_in new) shape g.grows.store l k rest whole w st whole_is r same
-
--- Kid by kid
-
--- what is known of an edge at 0 above the device; the edge has the child k
-pub record Below (old : NodeStore) (l v d k : ℕ) : Type 0 where
-  pub below : l < v
-  pub depth : v < length (shape_in old)
-  pub legal : d < get_or (shape_in old) v 0
-  pub fine : Fine (nodes_in old) (drop l (shape_in old)) l (at_zero k)
-  pub timely : some late (chart (nodes_in old) (drop l (shape_in old)) (at_zero k)) ≡ false
-
--- what is known while the first i of the n kids are built
-pub record Way (old mid : NodeStore) (l v d k n i : ℕ) (kids : List Edge) : Type 0 where
-  pub begun : Begun old mid l (goal (nodes_in old) (shape_in old) l v d (at_zero k)) i kids
-  pub count : n ≡ get_or (shape_in old) l 0
-
-module _ {old : NodeStore} {l v d k : ℕ} (s : Below old l v d k) where
-  abbrev there : List (Option Node)
-  there = nodes_in old
-
-  abbrev ground : Shape
-  ground = shape_in old
-
-  abbrev sound : Store there ground
-  sound = old.ready.store
-
-  -- the chart of the edge, and the chart that is to be built
-  abbrev given : Chart
-  given = chart there (drop l ground) (at_zero k)
-
-  abbrev inner : Chart
-  inner = goal there ground l v d (at_zero k)
-
-  deep : l < length ground
-  deep = omega (arith, s.below, s.depth)
-
-  inner_timely : some late inner ≡ false
-  inner_timely = goal_timely (drop l ground) (v - l) d given s.timely
-
-  -- as it is remembered
-  known_right : (new : List (Option Node)) → Kept there new → (r : Edge) → Stands new ground l inner r → Right new ground (key_of l v d k) r
-  known_right new kept r st =
-      let ns = drop l ground in
-      let p = chart_kept there new kept ground sound ns l (at_zero k) refl s.fine in
-      record {
-        left = fine_kept there new kept ns l (at_zero k) s.fine;
-        right = fine_kept there new kept ns l (at_zero k) s.fine;
-        stands = (st.0, st.1 ∙ ap (put_chart ns (v - l) d) (sym p));
-      }
-
-  -- piece by piece
-  abbrev fanned : ℕ → Chart
-  fanned j = put_chart (drop (l + 1) ground) (v - (l + 1)) d (piece ground l given j)
-
-  inner_is : inner ≡ flat_map fanned (range_with_len 0 (get_or ground l 0))
-  inner_is =
-      let ns = drop (l + 1) ground in
-      let at = drop_more ground l 0 deep in
-      let z : v - l ≡ suc (v - (l + 1)) = omega (arith, s.below) in
-      let vl : v - (l + 1) < length ns = omega (arith, length-drop (l + 1) ground, s.depth, s.below) in
-      let dl : d < get_or ns (v - (l + 1)) 0 = subst (λ n. d < n) (sym (get_or-drop (l + 1) ground (v - (l + 1)) 0 ∙ ap (λ j. get_or ground j 0) (let y : l + 1 + (v - (l + 1)) ≡ v = omega (arith, s.below) in y))) s.legal in
-      (λ i. put_chart (at i) (z i) d given) ∙ put_below (get_or ground l 0) (v - (l + 1)) d ns given vl dl
-
-  fanned_long : (j : ℕ) → length (fanned j) ≡ size (drop (l + 1) ground)
-  fanned_long j = put_length (drop (l + 1) ground) (v - (l + 1)) d (piece ground l given j)
-
-  inner_long : length inner ≡ get_or ground l 0 * size (drop (l + 1) ground)
-  inner_long = ap length inner_is ∙ made_long ground l fanned fanned_long
-
-  inner_piece : (j : ℕ) → j < get_or ground l 0 → fanned j ≡ piece ground l inner j
-  inner_piece j jl = sym (ap (λ c. piece ground l c j) inner_is ∙ piece_at ground l j fanned fanned_long jl ∙ ap fanned (get_or-range_with_len 0 (get_or ground l 0) j 0 jl ∙ zero-add j))
-
-  -- x is the node that the edge leads to
-  module _ {x : Node} (here : x ≡ node_at there k) where
-    kid_chart : (j : ℕ) → j < get_or ground l 0 → chart there (drop (l + 1) ground) (get_or x.edges j none_edge) ≡ piece ground l given j
-    kid_chart j jl =
-        ap (chart there (drop (l + 1) ground)) (sym (raised_zero (get_or x.edges j none_edge)))
-        ∙ sym (side_piece there ground sound l deep (at_zero k) 0 x s.fine refl here j jl)
-        ∙ ap (λ c. piece ground l c j) (sym (side_chart there ground sound l deep (at_zero k) 0 x s.fine refl here))
-
-    kid_fine : (j : ℕ) → j < get_or ground l 0 → Fine there (drop (l + 1) ground) (l + 1) (get_or x.edges j none_edge)
-    kid_fine j jl = subst (Fine there (drop (l + 1) ground) (l + 1)) (raised_zero (get_or x.edges j none_edge)) (side_fine there ground sound l deep (at_zero k) 0 x s.fine refl here j jl)
-
-    -- the kids one by one, the first i of n
-    module _ {mid : NodeStore} {n i : ℕ} {kids : List Edge} (p : Way old mid l v d k n i kids) where
-      -- the node has an edge for each of them
-      edges_counted : length (take n x.edges) ≡ get_or ground l 0
-      edges_counted = ap (λ m. length (take m x.edges)) p.count ∙ (side_formed there ground sound l deep (at_zero k) 0 x s.fine refl here).wide
-
-      module _ (il : i < length (take n x.edges)) where
-        abbrev kid : Edge
-        kid = get_or (take n x.edges) i none_edge
-
-        within : i < get_or ground l 0
-        within = omega (arith, il, edges_counted)
-
-        kid_is : kid ≡ get_or x.edges i none_edge
-        kid_is = get_or-take n x.edges i none_edge (omega (arith, within, p.count))
-
-        fine_there : Fine there (drop (l + 1) ground) (l + 1) kid
-        fine_there = subst (Fine there (drop (l + 1) ground) (l + 1)) (sym kid_is) (kid_fine i within)
-
-        next_chart : chart (nodes_in mid) (drop (l + 1) ground) kid ≡ piece ground l given i
-        next_chart = chart_kept there (nodes_in mid) p.begun.way.grows.kept ground sound (drop (l + 1) ground) (l + 1) kid refl fine_there ∙ ap (chart there (drop (l + 1) ground)) kid_is ∙ kid_chart i within
-
-        -- what is asked of the kid
-        pub next_fine : Fine (nodes_in mid) (drop (l + 1) (shape_in mid)) (l + 1) kid
-        next_fine = subst (λ t. Fine (nodes_in mid) (drop (l + 1) t) (l + 1) kid) (sym p.begun.same) (fine_kept there (nodes_in mid) p.begun.way.grows.kept (drop (l + 1) ground) (l + 1) kid fine_there)
-
-        pub next_timely : some late (chart (nodes_in mid) (drop (l + 1) (shape_in mid)) kid) ≡ false
-        next_timely = ap (λ t. some late (chart (nodes_in mid) (drop (l + 1) t) kid)) p.begun.same ∙ ap (some late) next_chart ∙ piece_timely ground l given i s.timely
-
-        -- what it is to have, in the store so far
-        abbrev next : Chart
-        next = goal (nodes_in mid) (shape_in mid) (l + 1) v d kid
-
-        next_is : next ≡ piece ground l inner i
-        next_is = ap (λ t. goal (nodes_in mid) t (l + 1) v d kid) p.begun.same ∙ ap (put_chart (drop (l + 1) ground) (v - (l + 1)) d) next_chart ∙ inner_piece i within
-
-        module _ (new : NodeStore) (g : Grew mid new (l + 1) next) where
-          pub put_grew : Grew old new l inner
-          put_grew = grew_next old mid new l inner i kids deep p.begun next within next_is g
-
-          pub put_stuck : Stuck (nodes_in new) (shape_in mid) (l + 1) next → Stuck (nodes_in new) ground l inner
-          put_stuck t = stuck_next old mid new l inner i kids deep p.begun next within next_is g t
-
-          pub put_more : (made : Edge) → Stands (nodes_in new) (shape_in mid) (l + 1) next made → Begun old new l inner (i + 1) (set kids i made)
-          put_more made st = begun_next old mid new l inner i kids deep p.begun next within next_is g made st
-
-      -- all of them
-      module _ (most : i ≤ length (take n x.edges)) (least : length (take n x.edges) ≤ i) where
-        all : i ≡ get_or ground l 0
-        all = omega (arith, most, least, edges_counted)
-
-        pub put_makeable : Makeable (nodes_in mid) (shape_in mid) l kids
-        put_makeable = begun_makeable old mid mid l inner i kids deep p.begun inner all inner_long inner_timely
-
-        module _ {new : NodeStore} (g : Grew mid new l (together (nodes_in mid) (shape_in mid) l kids)) where
-          pub made_grew : Grew old new l inner
-          made_grew = grew_made old mid new l inner i kids deep p.begun inner all inner_long g
-
-          pub made_built : (r : Option Edge) → Built (nodes_in new) (shape_in mid) l (together (nodes_in mid) (shape_in mid) l kids) r → Built (nodes_in new) ground l inner r
-          made_built r b = built_made old mid new l inner i kids deep p.begun inner all inner_long r b
-
-          pub made_right : (made : Edge) → Stands (nodes_in new) (shape_in mid) l (together (nodes_in mid) (shape_in mid) l kids) made → Right (nodes_in new) (shape_in new) (key_of l v d k) made
-          made_right made st = subst (λ t. Right (nodes_in new) t (key_of l v d k) made) (sym made_grew.same) (known_right (nodes_in new) made_grew.grows.kept made (made_built (Some made) st))

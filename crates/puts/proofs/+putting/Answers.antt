@@ -2,7 +2,8 @@ use Rattle.std.proofs.Common.{◌<◌, ℕ, length, get_or, Some, None, sym, ap,
 use Rattle.model.specs.Charts.{Chart}
 use Rattle.build.specs.Grew.{nodes_in, shape_in, MadeIn}
 use Rattle.build.proofs.Grown.{grew_none}
-use Rattle.puts.proofs.Putting.{Side, Below, Way, put_skipped, there_raise, there_spreadable, there_is, rest_fine, rest_timely, rest_grew, rest_stuck, raised_timely, raised_stands, next_fine, next_timely, put_grew, put_stuck, put_more, put_makeable, made_grew, made_built, made_right}
+use Rattle.puts.proofs.Putting.{Side, put_skipped, there_raise, there_spreadable, there_is, rest_fine, rest_timely, rest_grew, rest_stuck, raised_timely, raised_stands}
+use Rattle.puts.proofs.Kids.{Below, Way, next_fine, next_timely, put_grew, put_stuck, put_more, put_makeable, made_grew, made_built, made_right}
 use Rattle.puts.proofs.+putting.Goals.{put-After-from, put_below-At-loop-i}
 use Rattle.puts.proofs.+putting.Goals as goal
 
