@@ -1,6 +1,5 @@
 ghost use Rattle.std.specs.Prelude.{◌<◌, ◌≤◌, length};
-ghost use Rattle.build.specs.Builds.{Built};
-ghost use Rattle.build.specs.Grew.{nodes_in, shape_in, Grew};
+ghost use Rattle.build.specs.Grew.{nodes_in, shape_in, MadeIn};
 ghost use Rattle.apply.specs.Joins.{goal, Joinable, KidsBuilt};
 ghost use Rattle.apply.specs.Splits.{edge_of};
 
@@ -17,16 +16,16 @@ use nodes::remembered::{Key, Op, Operation, Remembered};
 pub fn join(diagrams: &mut Diagrams, op: Op, level: usize, a: Edge, b: Edge) -> Option<Edge>
     requires depth { level ≤ length (shape_in diagrams.old.store) }
     requires joinable { Joinable op (nodes_in diagrams.old.store) (shape_in diagrams.old.store) level a b }
-    ensures grew { Grew diagrams.old.store diagrams.new.store level (goal op (nodes_in diagrams.old.store) (shape_in diagrams.old.store) level a b) }
-    ensures built { Built (nodes_in diagrams.new.store) (shape_in diagrams.old.store) level (goal op (nodes_in diagrams.old.store) (shape_in diagrams.old.store) level a b) result }
+    ensures { MadeIn diagrams.old.store diagrams.new.store level (goal op (nodes_in diagrams.old.store) (shape_in diagrams.old.store) level a b) result }
 {
-    let Some(wa) = a.weight else {
+    let Some(weight_a) = a.weight else {
         return Some(skip(op, a, b));
     };
-    let Some(wb) = b.weight else {
+    let Some(weight_b) = b.weight else {
         return Some(skip(op, b, a));
     };
-    let weights = split(op, wa, wb);
+    let weights = split(op, weight_a, weight_b);
+    // where no device remains the child is 0, as in every edge to the terminal
     let same = Edge {
         weight: Some(weights.base),
         child: a.child,
@@ -49,7 +48,8 @@ pub fn join(diagrams: &mut Diagrams, op: Op, level: usize, a: Edge, b: Edge) -> 
     Some(raise(rest, weights.base))
 }
 
-/// The edge for two edges with times that lead to nodes, which is looked up, or built and then remembered.
+/// The edge for two edges with times that lead to nodes, which is looked up, or built and then remembered; none where no
+/// slot is free for one of its parts.
 #[cycle(joins)]
 fn join_nodes(
     diagrams: &mut Diagrams,
@@ -60,8 +60,7 @@ fn join_nodes(
 ) -> Option<Edge>
     requires depth { level < length (shape_in diagrams.old.store) }
     requires joinable { Joinable op (nodes_in diagrams.old.store) (shape_in diagrams.old.store) level (edge_of x) (edge_of y) }
-    ensures grew { Grew diagrams.old.store diagrams.new.store level (goal op (nodes_in diagrams.old.store) (shape_in diagrams.old.store) level (edge_of x) (edge_of y)) }
-    ensures built { Built (nodes_in diagrams.new.store) (shape_in diagrams.old.store) level (goal op (nodes_in diagrams.old.store) (shape_in diagrams.old.store) level (edge_of x) (edge_of y)) result }
+    ensures { MadeIn diagrams.old.store diagrams.new.store level (goal op (nodes_in diagrams.old.store) (shape_in diagrams.old.store) level (edge_of x) (edge_of y)) result }
 {
     let key = Key {
         operation: Operation::Join(op),
@@ -79,7 +78,7 @@ fn join_nodes(
     Some(result)
 }
 
-/// The edges for the settings of the level's device.
+/// The edges for the settings of the level's device, or none where no slot is free for a part of one of them.
 #[cycle(joins)]
 fn join_kids(
     diagrams: &mut Diagrams,
@@ -92,15 +91,15 @@ fn join_kids(
     requires joinable { Joinable op (nodes_in diagrams.old.store) (shape_in diagrams.old.store) level (edge_of x) (edge_of y) }
     ensures { KidsBuilt diagrams.old.store diagrams.new.store level (goal op (nodes_in diagrams.old.store) (shape_in diagrams.old.store) level (edge_of x) (edge_of y)) result }
 {
-    let left = diagrams.store.node_at(x.child);
-    let right = diagrams.store.node_at(y.child);
+    let node_x = diagrams.store.node_at(x.child);
+    let node_y = diagrams.store.node_at(y.child);
     let count = diagrams.store.count(level);
-    let pairs = left.edges[..count].iter().zip(&right.edges[..count]);
+    let pairs = node_x.edges[..count].iter().zip(&node_y.edges[..count]);
     let mut kids = [NEVER; 8];
     for (i, (a, b)) in pairs.enumerate() {
-        let d = raise(*a, x.weight);
-        let e = raise(*b, y.weight);
-        kids[i] = join(diagrams, op, level + 1, d, e)?;
+        let left = raise(*a, x.weight);
+        let right = raise(*b, y.weight);
+        kids[i] = join(diagrams, op, level + 1, left, right)?;
     }
     Some(kids)
 }

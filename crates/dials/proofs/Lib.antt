@@ -1,3 +1,3 @@
--- the steps of a dial: Turns; an edge lifted to a level above: Lifts
+-- charts with one entry, dials and fans: Turns; an edge lifted to a level above: Lifts
 pub mod Turns
 pub mod Lifts

@@ -1,4 +1,4 @@
--- The steps of a dial: charts of one entry, the levels above its device, and the kids of its node in a store that grows. Assumes nothing.
+-- Charts with one entry, a dial below its device, and a fan of such charts kid by kid. Assumes nothing.
 use Rattle.std.proofs.Common.{◌≡◌, ◌*◌, ℕ, suc, ◌+◌, ◌-◌, ◌<◌, ◌≤◌, Bool, false, ◌||◌, List, [], ◌∷◌, map, length, get_or, take, drop, set, None, Option, sym, refl, zero-add, length-take, ap, ◌∙◌, subst, arith}
 use Rattle.std.specs.List.{range_with_len, flat_map}
 use Rattle.std.proofs.lemmas.List.{drop_more, drop_all, get_or-take, get_or-drop}
@@ -61,7 +61,7 @@ dial_timely shape l v es lv vl h =
 abbrev pub fanned : Shape → ℕ → List Time → ℕ → Chart
 fanned shape l es x = flat (drop (l + 1) shape) (get_or es x None)
 
-pub fan_is : (shape : Shape) (l : ℕ) (es : List Time) → l < length shape → dialled (drop l shape) 0 es ≡ flat_map (fanned shape l es) (range_with_len 0 (get_or shape l 0))
+fan_is : (shape : Shape) (l : ℕ) (es : List Time) → l < length shape → dialled (drop l shape) 0 es ≡ flat_map (fanned shape l es) (range_with_len 0 (get_or shape l 0))
 fan_is shape l es lt = ap (λ t. dialled t 0 es) (drop_more shape l 0 lt) ∙ dialled_here (get_or shape l 0) (drop (l + 1) shape) es
 
 -- what is known while the kids of a fan are built, one for each of the device's n settings

@@ -1,12 +1,11 @@
 //! Charts that depend on one device, built from the last device up.
 #![tactic(auto)]
 
-ghost use Rattle.std.specs.Prelude.{◌≡◌, ◌-◌, ◌<◌, ◌≤◌, false, map, length, take, drop, slice_index};
+ghost use Rattle.std.specs.Prelude.{◌≡◌, ◌-◌, ◌<◌, ◌≤◌, false, length, take, drop, slice_index};
 ghost use Rattle.model.specs.Charts.{dialled, late};
 ghost use Rattle.model.specs.Lists.{some};
 ghost use Rattle.store.specs.Stores.{chart, Fine};
-ghost use Rattle.build.specs.Builds.{Built};
-ghost use Rattle.build.specs.Grew.{nodes_in, shape_in, Grew};
+ghost use Rattle.build.specs.Grew.{nodes_in, shape_in, MadeIn};
 ghost use Rattle.dials.specs.Flats.{flat, lifted};
 
 use build::node_store::NodeStore;
@@ -19,8 +18,7 @@ fn lift(store: &mut NodeStore, level: usize, from: usize, e: Edge) -> Option<Edg
     requires depth { from ≤ length (shape_in store.old) }
     requires fine { Fine (nodes_in store.old) (drop from (shape_in store.old)) from e }
     requires timely { some late (chart (nodes_in store.old) (drop from (shape_in store.old)) e) ≡ false }
-    ensures grew { Grew store.old store.new level (lifted (shape_in store.old) level (from - level) (chart (nodes_in store.old) (drop from (shape_in store.old)) e)) }
-    ensures built { Built (nodes_in store.new) (shape_in store.old) level (lifted (shape_in store.old) level (from - level) (chart (nodes_in store.old) (drop from (shape_in store.old)) e)) result }
+    ensures { MadeIn store.old store.new level (lifted (shape_in store.old) level (from - level) (chart (nodes_in store.old) (drop from (shape_in store.old)) e)) result }
 {
     if level == from {
         return Some(e);
@@ -29,12 +27,11 @@ fn lift(store: &mut NodeStore, level: usize, from: usize, e: Edge) -> Option<Edg
     store.spread(level, kid)
 }
 
-/// The edge whose chart has one entry throughout.
+/// The edge whose chart has one entry throughout, or none where no slot is free for a part of it.
 pub fn constant(store: &mut NodeStore, level: usize, entry: Option<u64>) -> Option<Edge>
     requires depth { level ≤ length (shape_in store.old) }
     requires timely { late entry ≡ false }
-    ensures grew { Grew store.old store.new level (flat (drop level (shape_in store.old)) entry) }
-    ensures built { Built (nodes_in store.new) (shape_in store.old) level (flat (drop level (shape_in store.old)) entry) result }
+    ensures { MadeIn store.old store.new level (flat (drop level (shape_in store.old)) entry) result }
 {
     let leaf = Edge {
         weight: entry,
@@ -44,12 +41,12 @@ pub fn constant(store: &mut NodeStore, level: usize, entry: Option<u64>) -> Opti
     lift(store, level, devices, leaf)
 }
 
-/// The edge of a level whose chart gives each setting of its device an entry.
+/// The edge of a level whose chart gives each setting of its device an entry, or none where no slot is free for a part of
+/// it.
 fn fan(store: &mut NodeStore, level: usize, entries: &[Option<u64>; 8]) -> Option<Edge>
     requires depth { level < length (shape_in store.old) }
     requires timely { some late (take (slice_index (shape_in store.old) level) entries.now) ≡ false }
-    ensures grew { Grew store.old store.new level (dialled (drop level (shape_in store.old)) 0 entries.now) }
-    ensures built { Built (nodes_in store.new) (shape_in store.old) level (dialled (drop level (shape_in store.old)) 0 entries.now) result }
+    ensures { MadeIn store.old store.new level (dialled (drop level (shape_in store.old)) 0 entries.now) result }
 {
     let count = store.count(level);
     let mut kids = [NEVER; 8];
@@ -69,8 +66,7 @@ pub fn dial(
     requires above { level ≤ device }
     requires depth { device < length (shape_in store.old) }
     requires timely { some late (take (slice_index (shape_in store.old) device) entries.now) ≡ false }
-    ensures grew { Grew store.old store.new level (dialled (drop level (shape_in store.old)) (device - level) entries.now) }
-    ensures built { Built (nodes_in store.new) (shape_in store.old) level (dialled (drop level (shape_in store.old)) (device - level) entries.now) result }
+    ensures { MadeIn store.old store.new level (dialled (drop level (shape_in store.old)) (device - level) entries.now) result }
 {
     let fanned = fan(store, device, entries)?;
     lift(store, level, device, fanned)

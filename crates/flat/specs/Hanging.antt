@@ -9,7 +9,7 @@ use Rattle.std.proofs.lemmas.Bool.{cases_eq, cases_lt}
 use Rattle.model.specs.Lists.{some}
 use Rattle.model.specs.Scenes.{Shape, size, shape_off}
 use Rattle.model.specs.Charts.{Time, Chart, late, zipped, dialled, put_chart}
-use Rattle.model.specs.Shelves.{Meaning, Pegs, Sound, chart_of, on, bare, flat_fill}
+use Rattle.model.specs.Shelves.{Meaning, Pegs, Sound, chart_of, on, bare, with_pegs, flat_fill}
 use Rattle.model.proofs.Strides.{stride}
 use Rattle.shelf.specs.Shapes.{shape_of}
 use Rattle.cells.specs.Writes.{Written, Blocks}
@@ -47,11 +47,27 @@ module _ (ns : Shape) (cells : List Time) (hung : List Bool) where
   pub row_on : (p : ℕ) → p < 8 → slice_index_or hung p false ≡ true → on (flat ns cells hung).pegs p ≡ row cells (size ns) p
   row_on p h e = rw (peg_at p h, e)
 
+  pub row_legal : (p : ℕ) → slice_index_or hung p false ≡ true → Timely ns cells hung → some late (row cells (size ns) p) ≡ false
+  row_legal p e h = rw e at (h p)
+
   -- What a write leaves
 
   module _ (eight : length hung ≡ 8) (t : ℕ) (low : t < 8) where
     inside : t < length hung
     inside = omega arith
+
+    pub flat_wiped : flat ns cells (slice_set hung t false) ≡ with_pegs (flat ns cells hung) (slice_set (flat ns cells hung).pegs t None)
+    flat_wiped =
+        ap with (set_table (peg ns cells hung) (peg ns cells (slice_set hung t false)) 8 t None low
+        (ap (λ b. cond b (Some (row cells (size ns) t)) None) (get_or-set_same hung t false false inside))
+        (λ q ne. ap (λ b. cond b (Some (row cells (size ns) q)) None) (get_or-set_other hung t q false false ne)))
+
+    pub timely_wiped : Timely ns cells hung → Timely ns cells (slice_set hung t false)
+    timely_wiped old p =
+        ⊎_elim
+        (λ e. subst (λ (q : ℕ). some late (chart_of (peg ns cells (slice_set hung t false) q)) ≡ false) (sym e) (rw (get_or-set_same hung t false false inside)))
+        (λ ne. rw (get_or-set_other hung t p false false ne) (old p))
+        (cases_eq p t)
 
     module _ (new : List Time) (c : Chart) (w : RowHung (size ns) t c cells new) where
       pub flat_hung : flat ns new (slice_set hung t true) ≡ hanging (flat ns cells hung) t c

@@ -1,4 +1,4 @@
--- The steps of an attempt to hang a chart: what pegs carry as their store grows, and the chart that a task makes. Assumes nothing.
+-- What pegs carry while the store grows, what an attempt to hang a chart leaves, and that no time of the chart is late. Assumes nothing.
 use Rattle.std.proofs.Common.{◌≡◌, ℕ, zero, suc, ◌-◌, ◌<◌, ◌≤◌, false, not, List, [], ◌∷◌, length, get_or, set, is_some, Some, None, Option, sym, refl, ap, ◌∙◌, subst, inl, arith}
 use Rattle.std.specs.List.{AllByRecursion, flat_map}
 use Rattle.std.proofs.lemmas.Bool.{both_ways}
@@ -33,7 +33,7 @@ peg_is nodes shape [] a = refl
 peg_is nodes shape (p ∷ ps) zero = refl
 peg_is nodes shape (p ∷ ps) (suc a) = peg_is nodes shape ps a
 
-pub on_is : (nodes : List (Option Node)) (shape : Shape) (pegs : List (Option Edge)) (a : ℕ) (e : Edge) → get_or pegs a None ≡ Some e → on (pegs_of nodes shape pegs) a ≡ chart nodes shape e
+on_is : (nodes : List (Option Node)) (shape : Shape) (pegs : List (Option Edge)) (a : ℕ) (e : Edge) → get_or pegs a None ≡ Some e → on (pegs_of nodes shape pegs) a ≡ chart nodes shape e
 on_is nodes shape pegs a e h = ap chart_of (peg_is nodes shape pegs a ∙ ap (peg_chart nodes shape) h)
 
 -- a peg that is not bare carries an edge
@@ -45,7 +45,7 @@ all_at P [] a e f h = absurd (let z : ◌≡◌ {A = ℕ} 0 1 = cc in omega arit
 all_at P (p ∷ ps) zero e f h = subst P h f.0
 all_at P (p ∷ ps) (suc a) e f h = all_at P ps a e f.1 h
 
-pub peg_held : (store : NodeStore) (pegs : List (Option Edge)) (a : ℕ) (e : Edge) → Held store pegs → get_or pegs a None ≡ Some e → peg_fine (nodes_in store) (shape_in store) (Some e)
+peg_held : (store : NodeStore) (pegs : List (Option Edge)) (a : ℕ) (e : Edge) → Held store pegs → get_or pegs a None ≡ Some e → peg_fine (nodes_in store) (shape_in store) (Some e)
 peg_held store pegs a e held h = all_at (peg_fine (nodes_in store) (shape_in store)) pegs a e held.fine h
 
 -- An attempt
@@ -95,7 +95,7 @@ module _ {old new : NodeStore} {pegs : List (Option Edge)} {c : Chart} (held : H
 
 -- The chart to be hung
 
-pub dial_is : (shape : Shape) (v : ℕ) (es : List Time) → dialled shape (v - 0) es ≡ dialled shape v es
+dial_is : (shape : Shape) (v : ℕ) (es : List Time) → dialled shape (v - 0) es ≡ dialled shape v es
 dial_is shape v es = ap (λ k. dialled shape k es) (let z : v - 0 ≡ v = omega arith in z)
 
 -- no time of it is late

@@ -42,17 +42,24 @@ returns-then-level-from t c =
       built = (subst (λ j. Fine nodes (drop j shape) j c.args.e) (sym same) c.requires.fine, ap (λ j. chart nodes (drop j shape) c.args.e) same ∙ ap (λ k. lifted shape l k top) none);
     }
 
-pub returns-in_err-kid-clause-grew : goal.returns-in_err-kid-clause-grew
-returns-in_err-kid-clause-grew t c = turn_early (turn t (goal.at.returns-in_err-kid-clause-grew t c).After-lift)
-
-pub returns-in_err-kid-clause-built : goal.returns-in_err-kid-clause-built
-returns-in_err-kid-clause-built t c = turn_none (turn t (goal.at.returns-in_err-kid-clause-built t c).After-lift) c.from_residual.result c.from_residual.ensures c.in_err-kid.ensures.built
+pub returns-in_err-kid : goal.returns-in_err-kid
+returns-in_err-kid t c =
+    let s = turn t (goal.at.returns-in_err-kid t c).After-lift in
+    record {
+      grew = turn_early s;
+      built = turn_none s c.from_residual.result c.from_residual.ensures c.in_err-kid.ensures.built;
+    }
 
 pub spread-requires : goal.spread-requires
 spread-requires t c = turn_spreadable (turn t (goal.at.spread-requires t c).After-lift) c.in_ok-kid.kid c.in_ok-kid.ensures.built
 
-pub returns-clause-grew : goal.returns-clause-grew
-returns-clause-grew t c = turn_grew (turn t (goal.at.returns-clause-grew t c).After-lift) c.in_ok-kid.kid c.in_ok-kid.ensures.built c.spread.new.self c.spread.ensures.grew
-
-pub returns-clause-built : goal.returns-clause-built
-returns-clause-built t c = turn_built (turn t (goal.at.returns-clause-built t c).After-lift) c.in_ok-kid.kid c.in_ok-kid.ensures.built c.spread.new.self c.spread.result c.spread.ensures.built
+pub returns : goal.returns
+returns t c =
+    let s = turn t (goal.at.returns t c).After-lift in
+    let kid = c.in_ok-kid.kid in
+    let stands = c.in_ok-kid.ensures.built in
+    let new = c.spread.new.self in
+    record {
+      grew = turn_grew s kid stands new c.spread.ensures.grew;
+      built = turn_built s kid stands new c.spread.result c.spread.ensures.built;
+    }

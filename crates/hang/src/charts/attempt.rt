@@ -1,6 +1,5 @@
 ghost use Rattle.std.specs.Prelude.{◌≡◌, ◌<◌};
-ghost use Rattle.build.specs.Builds.{Built};
-ghost use Rattle.build.specs.Grew.{nodes_in, shape_in, Grew};
+ghost use Rattle.build.specs.Grew.{nodes_in, shape_in, MadeIn};
 ghost use Rattle.pegs.specs.Held.{Alike};
 ghost use Rattle.hang.specs.Tasks.{Allowed, made, Tried};
 ghost use Rattle.hang.specs.Carried.{carried};
@@ -19,8 +18,7 @@ impl<const N: usize> Charts<N> {
     fn join_pegs(&mut self, op: Op, left: u8, right: u8) -> Option<Edge>
         requires allowed { Allowed (shape_in self.old.diagrams.store) (carried self.old) (Task.Join op left right) }
         ensures pegs { self.new.pegs ≡ self.old.pegs }
-        ensures grew { Grew self.old.diagrams.store self.new.diagrams.store 0 (made (shape_in self.old.diagrams.store) (carried self.old) (Task.Join op left right)) }
-        ensures built { Built (nodes_in self.new.diagrams.store) (shape_in self.old.diagrams.store) 0 (made (shape_in self.old.diagrams.store) (carried self.old) (Task.Join op left right)) result }
+        ensures made { MadeIn self.old.diagrams.store self.new.diagrams.store 0 (made (shape_in self.old.diagrams.store) (carried self.old) (Task.Join op left right)) result }
     {
         let x = taken(&self.pegs, usize::from(left))?;
         let y = taken(&self.pegs, usize::from(right))?;
@@ -31,8 +29,7 @@ impl<const N: usize> Charts<N> {
     fn put_peg(&mut self, peg: u8, device: u8, setting: u8) -> Option<Edge>
         requires allowed { Allowed (shape_in self.old.diagrams.store) (carried self.old) (Task.Put peg device setting) }
         ensures pegs { self.new.pegs ≡ self.old.pegs }
-        ensures grew { Grew self.old.diagrams.store self.new.diagrams.store 0 (made (shape_in self.old.diagrams.store) (carried self.old) (Task.Put peg device setting)) }
-        ensures built { Built (nodes_in self.new.diagrams.store) (shape_in self.old.diagrams.store) 0 (made (shape_in self.old.diagrams.store) (carried self.old) (Task.Put peg device setting)) result }
+        ensures made { MadeIn self.old.diagrams.store self.new.diagrams.store 0 (made (shape_in self.old.diagrams.store) (carried self.old) (Task.Put peg device setting)) result }
     {
         let e = taken(&self.pegs, usize::from(peg))?;
         put(&mut self.diagrams, 0, device, setting, e)
@@ -43,8 +40,7 @@ impl<const N: usize> Charts<N> {
     fn attempt(&mut self, task: Task) -> Option<Edge>
         requires allowed { Allowed (shape_in self.old.diagrams.store) (carried self.old) task }
         ensures pegs { self.new.pegs ≡ self.old.pegs }
-        ensures grew { Grew self.old.diagrams.store self.new.diagrams.store 0 (made (shape_in self.old.diagrams.store) (carried self.old) task) }
-        ensures built { Built (nodes_in self.new.diagrams.store) (shape_in self.old.diagrams.store) 0 (made (shape_in self.old.diagrams.store) (carried self.old) task) result }
+        ensures made { MadeIn self.old.diagrams.store self.new.diagrams.store 0 (made (shape_in self.old.diagrams.store) (carried self.old) task) result }
     {
         match task {
             Task::Dial { device, entries } => {

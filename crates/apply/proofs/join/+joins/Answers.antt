@@ -2,22 +2,22 @@ use Rattle.std.proofs.Common.{length, Some, None, sym, ap, ◌∙◌, arith, rul
 use Rattle.nodes.specs.declared.remembered.Operation.TheVariants.{Join}
 use Rattle.model.specs.Charts.{late}
 use Rattle.build.specs.Grew.{nodes_in, shape_in}
-use Rattle.build.proofs.Grown.{ready_in}
+use Rattle.build.proofs.Grown.{grew_none, ready_in}
 use Rattle.build.proofs.Sides.{weight_timely}
 use Rattle.memo.specs.Results.{Right}
 use Rattle.apply.proofs.Answering.{answer_left, answer_right, answer_leaf, answer_same}
 use Rattle.apply.proofs.Joining.{sides_of, pair_of, two, two_below, two_left, two_right, two_all, next_of, rest_joinable, rest_stuck, rest_timely, rest_stands, rest_grew, raise_left, raise_right, kid_joinable, join_grew, join_stuck, join_more, kids_makeable, join_made, join_built, join_right}
 use Rattle.apply.proofs.join.+joins.Goals as goal
 
-pub join-returns-in_default-clause-built : goal.join-returns-in_default-clause-built
-join-returns-in_default-clause-built t c =
+pub join-returns-in_default : goal.join-returns-in_default
+join-returns-in_default t c =
     let store = c.args.diagrams.now.store in
-    answer_left c.args.op (nodes_in store) (shape_in store) store.ready.store c.args.level c.args.a c.args.b c.skip.result c.in_default.is c.requires.joinable.left c.requires.joinable.right c.skip.ensures
+    record { grew = grew_none store c.args.level _; built = answer_left c.args.op (nodes_in store) (shape_in store) store.ready.store c.args.level c.args.a c.args.b c.skip.result c.in_default.is c.requires.joinable.left c.requires.joinable.right c.skip.ensures }
 
-pub join-returns-in_default-weight-clause-built : goal.join-returns-in_default-weight-clause-built
-join-returns-in_default-weight-clause-built t c =
+pub join-returns-in_default-weight : goal.join-returns-in_default-weight
+join-returns-in_default-weight t c =
     let store = c.args.diagrams.now.store in
-    answer_right c.args.op (nodes_in store) (shape_in store) store.ready.store c.args.level c.args.a c.args.b c.skip-in_default-weight.result c.in_default-weight.is c.requires.joinable.left c.requires.joinable.right c.skip-in_default-weight.ensures
+    record { grew = grew_none store c.args.level _; built = answer_right c.args.op (nodes_in store) (shape_in store) store.ready.store c.args.level c.args.a c.args.b c.skip-in_default-weight.result c.in_default-weight.is c.requires.joinable.left c.requires.joinable.right c.skip-in_default-weight.ensures }
 
 pub join-split-weights-requires : goal.join-split-weights-requires
 join-split-weights-requires t c =
@@ -27,15 +27,15 @@ join-split-weights-requires t c =
       right = ap late (sym c.in-Some-weight.is) ∙ weight_timely (nodes_in store) (shape_in store) store.ready.store c.args.level c.args.b c.requires.joinable.right c.requires.joinable.right_timely;
     }
 
-pub join-returns-then-level-devices-clause-built : goal.join-returns-then-level-devices-clause-built
-join-returns-then-level-devices-clause-built t c =
+pub join-returns-then-level-devices : goal.join-returns-then-level-devices
+join-returns-then-level-devices t c =
     let store = c.args.diagrams.now.store in
-    answer_leaf c.args.op (nodes_in store) (shape_in store) c.args.level c.args.a c.args.b c.in-Some.wa c.in-Some-weight.wb c.split-weights.result (c.if-level-devices.true ∙ c.devices.ensures.value) c.in-Some.is c.in-Some-weight.is c.split-weights.ensures c.requires.joinable.left
+    record { grew = grew_none store c.args.level _; built = answer_leaf c.args.op (nodes_in store) (shape_in store) c.args.level c.args.a c.args.b c.in-Some.weight_a c.in-Some-weight.weight_b c.split-weights.result (c.if-level-devices.true ∙ c.devices.ensures.value) c.in-Some.is c.in-Some-weight.is c.split-weights.ensures c.requires.joinable.left }
 
-pub join-returns-then-a-b-clause-built : goal.join-returns-then-a-b-clause-built
-join-returns-then-a-b-clause-built t c =
+pub join-returns-then-a-b : goal.join-returns-then-a-b
+join-returns-then-a-b t c =
     let store = c.args.diagrams.now.store in
-    answer_same c.args.op (nodes_in store) (shape_in store) c.args.level c.args.a c.args.b c.in-Some.wa c.in-Some-weight.wb c.split-weights.result (search rules) c.if-a-b.true c.in-Some.is c.in-Some-weight.is c.split-weights.ensures c.requires.joinable.left
+    record { grew = grew_none store c.args.level _; built = answer_same c.args.op (nodes_in store) (shape_in store) c.args.level c.args.a c.args.b c.in-Some.weight_a c.in-Some-weight.weight_b c.split-weights.result (search rules) c.if-a-b.true c.in-Some.is c.in-Some-weight.is c.split-weights.ensures c.requires.joinable.left }
 
 pub join-join_nodes-requires : goal.join-join_nodes-requires
 join-join_nodes-requires t c =
@@ -92,15 +92,15 @@ join_nodes-returns t c =
     let got = c.in_ok-result.ensures in
     rw c.remember.ensures.store (record { grew = join_made pair c.in_ok-kids.ensures got.grew; built = join_built pair c.in_ok-kids.ensures got.grew (Some c.in_ok-result.result) got.built })
 
-pub join_kids-raise-d-requires : goal.join_kids-raise-d-requires
-join_kids-raise-d-requires t c =
+pub join_kids-raise-left-requires : goal.join_kids-raise-left-requires
+join_kids-raise-left-requires t c =
     let pair = pair_of c.args.op c.args.diagrams.now.store c.args.level c.args.x c.args.y c.requires.depth c.requires.joinable in
     let at = c.loop-i.invariant.2 in
     let n = c.count-count.ensures.value in
     rw (two_left pair at n c.next.new.self c.in-Some.is c.next.ensures.steps) (raise_left pair c.in-Some.i (two_below pair at n c.next.new.self c.in-Some.is c.next.ensures.steps))
 
-pub join_kids-raise-e-requires : goal.join_kids-raise-e-requires
-join_kids-raise-e-requires t c =
+pub join_kids-raise-right-requires : goal.join_kids-raise-right-requires
+join_kids-raise-right-requires t c =
     let pair = pair_of c.args.op c.args.diagrams.now.store c.args.level c.args.x c.args.y c.requires.depth c.requires.joinable in
     let at = c.loop-i.invariant.2 in
     let n = c.count-count.ensures.value in
@@ -109,20 +109,20 @@ join_kids-raise-e-requires t c =
 pub join_kids-join-requires : goal.join_kids-join-requires
 join_kids-join-requires t c =
     let pair = pair_of c.args.op c.args.diagrams.now.store c.args.level c.args.x c.args.y c.requires.depth c.requires.joinable in
-    let next = next_of pair c.loop-i.invariant.2 c.count-count.ensures.value c.next.new.self c.in-Some.is c.next.ensures.steps c.loop-i.invariant.3 c.raise-d.ensures c.raise-e.ensures in
+    let next = next_of pair c.loop-i.invariant.2 c.count-count.ensures.value c.next.new.self c.in-Some.is c.next.ensures.steps c.loop-i.invariant.3 c.raise-left.ensures c.raise-right.ensures in
     (omega (arith, ap length c.loop-i.invariant.3.same, c.requires.depth), (omega (arith, ap length c.loop-i.invariant.3.same), kid_joinable next))
 
 pub join_kids-returns-in_err-kids : goal.join_kids-returns-in_err-kids
 join_kids-returns-in_err-kids t c =
     let pair = pair_of c.args.op c.args.diagrams.now.store c.args.level c.args.x c.args.y c.requires.depth c.requires.joinable in
-    let next = next_of pair c.loop-i.invariant.2 c.count-count.ensures.value c.next.new.self c.in-Some.is c.next.ensures.steps c.loop-i.invariant.3 c.raise-d.ensures c.raise-e.ensures in
+    let next = next_of pair c.loop-i.invariant.2 c.count-count.ensures.value c.next.new.self c.in-Some.is c.next.ensures.steps c.loop-i.invariant.3 c.raise-left.ensures c.raise-right.ensures in
     let got = c.in_err-kids.ensures in
     rw c.from_residual.ensures (join_grew next got.grew, join_stuck next got.grew got.built)
 
 pub join_kids-loop-i-preserved : goal.join_kids-loop-i-preserved
 join_kids-loop-i-preserved t c =
     let pair = pair_of c.args.op c.args.diagrams.now.store c.args.level c.args.x c.args.y c.requires.depth c.requires.joinable in
-    let next = next_of pair c.loop-i.invariant.2 c.count-count.ensures.value c.next.new.self c.in-Some.is c.next.ensures.steps c.loop-i.invariant.3 c.raise-d.ensures c.raise-e.ensures in
+    let next = next_of pair c.loop-i.invariant.2 c.count-count.ensures.value c.next.new.self c.in-Some.is c.next.ensures.steps c.loop-i.invariant.3 c.raise-left.ensures c.raise-right.ensures in
     let turn = two pair c.loop-i.invariant.2 c.count-count.ensures.value c.next.new.self c.in-Some.is c.next.ensures.steps in
     let got = c.in_ok-kids.ensures in
     (search rules, search rules, turn.ahead, rw turn.count (join_more next got.grew c.in_ok-kids.field-0 got.built))
