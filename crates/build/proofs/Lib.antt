@@ -1,6 +1,7 @@
--- weights lowered and raised: Weights; least weights: Lows; greatest times: Highs; the node made of some kids: Makes, Made; building kid by kid: Steps, Spreads
+-- weights lowered and raised: Weights; least weights: Lows; an array mapped: Mapped; greatest times: Highs; the node made of some kids: Makes, Made; building kid by kid: Steps, Spreads
 pub mod Weights
 pub mod Lows
+pub mod Mapped
 pub mod Highs
 pub mod Makes
 pub mod Steps

@@ -25,13 +25,8 @@ fn lower(e: Edge, by: Option<u64>) -> Edge
 }
 
 /// The edges with a time subtracted from each weight.
-// A loop: of an array's `map` a proof gets that each call keeps its contract, not what it answered.
 pub fn lower_all(kids: [Edge; 8], by: Option<u64>) -> [Edge; 8]
     ensures { result ≡ map (lower_by by) kids }
 {
-    let mut edges = kids;
-    for e in &mut edges {
-        *e = lower(*e, by);
-    }
-    edges
+    kids.map(|kid| lower(kid, by))
 }
