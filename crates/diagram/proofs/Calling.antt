@@ -36,7 +36,7 @@ abbrev pub Passes : Meaning → Call → Type 0
 Passes m call = AllByRecursion (λ k. k.holds ≡ false) (before m call)
 
 -- the same charts where there is always room
-roomy : Meaning → Meaning
+abbrev roomy : Meaning → Meaning
 roomy m = record { shape = m.shape; capacity = 0; fill = flat_fill; pegs = m.pegs }
 
 passes_roomy : (m : Meaning) (call : Call) → Passes m call → AllByRecursion (λ k. k.holds ≡ false) (call_checks (roomy m) call)
@@ -47,7 +47,7 @@ passes_roomy m (put t a v d) h = (h.0, (h.1.0, (h.1.1.0, (h.1.1.1.0, (refl, tt))
 
 second : (x y : Bool) → x ≡ true → (x && y) ≡ false → y ≡ false
 second true y e h = h
-second false y e h = absurd (both_ways false e refl)
+second false y e h = absurd (both_ways false refl e)
 
 module _ (m : Meaning) (s : Sound m) where
   legal : (call : Call) → Passes m call → some late (hung m.shape m.pegs call) ≡ false
@@ -57,13 +57,13 @@ module _ (m : Meaning) (s : Sound m) where
   allowed t (Dial v es) h = (leb-false (length m.shape) v h.0, h.1.1.0)
   allowed t (Join Cheaper a b) h =
       let both = or_parts (bare m.pegs a) (bare m.pegs b) h.1.0 in
-      (both.0, (both.1, legal (cheaper t a b) h))
+      (both.0, both.1, legal (cheaper t a b) h)
   allowed t (Join Sum a b) h =
       let both = or_parts (bare m.pegs a) (bare m.pegs b) h.1.0 in
-      (both.0, (both.1, legal (sum t a b) h))
+      (both.0, both.1, legal (sum t a b) h)
   allowed t (Put a v d) h =
       let low = leb-false (length m.shape) v h.0 in
-      (h.1.1.1.0, (low, leb-false (slice_index m.shape v) d (second (nat_lt v (length m.shape)) (nat_le (slice_index m.shape v) d) (lt-ltb v (length m.shape) low) h.1.0)))
+      (h.1.1.1.0, low, leb-false (slice_index m.shape v) d (second (nat_lt v (length m.shape)) (nat_le (slice_index m.shape v) d) (lt-ltb v (length m.shape) low) h.1.0))
 
 -- every check but that of room has passed
 module _ (m n : Meaning) (call : Call) (passed : Passes m call) where

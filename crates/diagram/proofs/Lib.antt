@@ -2,3 +2,4 @@
 pub mod Hanging
 pub mod Calling
 pub mod Pegs
+pub mod Calls

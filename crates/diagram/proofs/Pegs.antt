@@ -23,7 +23,7 @@ module _ (nodes : List (Option Node)) (shape : Shape) where
   tells_of (q ∷ ps) (suc p) = tells_of ps p
 
   nothing : (e : Edge) → ◌≡◌ {A = Option Edge} None (Some e) → ⊥
-  nothing e h = both_ways (is_some {X = Edge} None) refl (ap is_some h)
+  nothing e h = absurd (let z : ◌≡◌ {A = ℕ} 0 1 = cc in omega arith)
 
   -- a peg that carries an edge
   pub hangs_of : (pegs : List (Option Edge)) (p : ℕ) (e : Edge) → get_or pegs p None ≡ Some e → get_or (hung_in pegs) p false ≡ true

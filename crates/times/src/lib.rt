@@ -3,6 +3,7 @@
 
 ghost use Rattle.std.specs.Prelude.{◌≡◌, false};
 ghost use Rattle.model.specs.Charts as charts;
+ghost use Rattle.model.specs.Lists.{some};
 
 use lists::limits::MOST_TIME;
 
@@ -44,4 +45,11 @@ pub fn sum_is_late(a: Option<u64>, b: Option<u64>) -> bool
     ensures value { result ≡ charts.late (charts.plus a b) }
 {
     a.zip(b).is_some_and(|(x, y)| x + y > MOST_TIME)
+}
+
+/// Whether some entry is above the greatest time that a chart may have.
+pub fn some_late(entries: &[Option<u64>]) -> bool
+    ensures value { result ≡ some charts.late entries.now }
+{
+    entries.iter().any(|time| is_late(*time))
 }

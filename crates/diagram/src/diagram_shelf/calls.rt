@@ -8,7 +8,7 @@ use nodes::remembered::Op;
 use shelf::calls::Shelf;
 use shelf::fault::ShelfFault;
 use shelf::numbers::{device_of, judge_scene, peg_of};
-use times::{is_late, sum_is_late};
+use times::{some_late, sum_is_late};
 use walk::walk;
 
 /// A diagram shelf has room for so many different parts of charts as it has node slots.
@@ -26,7 +26,7 @@ impl Shelf for DiagramShelf {
         let known = device_of(self.shape(), device)?;
         let target = peg_of(target)?;
         let count = usize::from(self.shape()[known]);
-        if entries[..count].iter().any(|entry| is_late(*entry)) {
+        if some_late(&entries[..count]) {
             return Err(ShelfFault::TimeHigh);
         }
         let entries = *entries;
