@@ -118,7 +118,7 @@ compares_edges s l r x y cx cy b is =
     let p = on_is s l x cx in
     let q = on_is s r y cy in
     let z : edge_eq x y ≡ same_chart (cs x) (cs y) =
-        both_ways_same _ _ (λ h. same.1 (ap cs (eq.0 h))) (λ h. eq.1 (canonical (nodes_in store) shape store.ready.store x y (fine_is s l x cx).0 (fine_is s r y cy).0 (same.0 h))) in
+    both_ways_same _ _ (λ h. same.1 (ap cs (eq.0 h))) (λ h. eq.1 (canonical (nodes_in store) shape store.ready.store x y (fine_is s l x cx).0 (fine_is s r y cy).0 (same.0 h))) in
     ap Ok (is ∙ z) ∙ sym (λ i. Ok (same_chart (p i) (q i))) ∙ sym (compares_charts (means s) (hung_in s.charts.pegs) (tells s) l r cx.0 cy.0 (hangs s l x cx) (hangs s r y cy))
 
 -- A scene read

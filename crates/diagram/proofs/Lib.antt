@@ -3,3 +3,4 @@ pub mod Hanging
 pub mod Calling
 pub mod Pegs
 pub mod Calls
+pub mod Opening

@@ -1,3 +1,4 @@
 pub mod Means
 pub mod Numbers
 pub mod Soundness
+pub mod Openings

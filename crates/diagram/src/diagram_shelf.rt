@@ -23,3 +23,4 @@ pub struct DiagramShelf {
 pub mod calls;
 pub mod hanging;
 mod numbers;
+pub mod opening;

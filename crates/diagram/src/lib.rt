@@ -2,3 +2,6 @@
 #![tactic(auto)]
 
 pub mod diagram_shelf;
+pub mod open_fault;
+#[cfg(test)]
+mod tests;
