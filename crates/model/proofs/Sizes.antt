@@ -7,7 +7,7 @@ use Rattle.std.proofs.lemmas.Bool.{or_parts, ltb-false}
 use Rattle.model.specs.Limits.{outside, most_devices, least_settings, most_settings}
 use Rattle.model.specs.Lists.{some}
 use Rattle.model.specs.Scenes.{Shape, size, shape_off}
-use Rattle.model.proofs.Testing.{none_take, none_drop, none_at}
+use Rattle.model.proofs.Testing.{none_take, none_drop}
 
 -- Legal counts
 
@@ -36,10 +36,6 @@ pub legal_drop : (i : ℕ) (ns : Shape) → shape_off ns ≡ false → (length (
 legal_drop i ns h =
     let p = legal_parts ns h in
     (omega (arith, length-drop i ns, p.1), none_drop count_off i ns p.2)
-
--- a device has two to eight settings
-pub setting_count : (ns : Shape) (v : ℕ) → some count_off ns ≡ false → v < length ns → (2 ≤ get_or ns v 0) × (get_or ns v 0 ≤ 8)
-setting_count ns v h l = legal_count (get_or ns v 0) (none_at count_off v ns 0 l h)
 
 -- Sizes
 

@@ -4,9 +4,6 @@ use Rattle.std.proofs.lemmas.List.{drop_more}
 use Rattle.std.proofs.lemmas.Bool.{false≢true, or_right}
 use Rattle.model.specs.Lists.{In, every, some, some_two}
 
-pub absurd : {A : Type 0} → ⊥ → A
-absurd e = elim e [ ]
-
 module _ {X : Type 0} where
   -- an element at which the test passes
   pub some_at : (t : X → Bool) (xs : List X) (k : ℕ) (d : X) → k < length xs → t (get_or xs k d) ≡ true → some t xs ≡ true
