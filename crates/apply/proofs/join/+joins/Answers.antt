@@ -81,8 +81,8 @@ pub join_nodes-remember-requires : goal.join_nodes-remember-requires
 join_nodes-remember-requires t c =
     let pair = pair_of c.args.op c.args.diagrams.now.store c.args.level c.args.x c.args.y c.requires.depth c.requires.joinable in
     let got = c.in_ok-result.ensures in
-    let p = sym c.edge.ensures in
-    let q = sym c.edge-2.ensures in
+    let p = sym c.from.ensures in
+    let q = sym c.from-2.ensures in
     let new = c.make.new.self.store in
     record { right = coe 0 1 (i. Right (nodes_in new) (shape_in new) (record { operation = Join c.args.op; level = c.args.level; left = p i; right = q i }) c.in_ok-result.result) (join_right pair c.in_ok-kids.ensures got.grew c.in_ok-result.result got.built) }
 
