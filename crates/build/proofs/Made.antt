@@ -10,7 +10,7 @@ use Rattle.model.specs.Lists.{some}
 use Rattle.model.specs.Scenes.{Shape}
 use Rattle.store.specs.Stores.{lowest, highest, chart, Fine, Proper}
 use Rattle.store.specs.Fillings.{Stuck}
-use Rattle.build.specs.Builds.{lower_by, wanted, NodeTable, Ready, Kids, Makeable, Grows, Built, Made, together}
+use Rattle.build.specs.Builds.{lower_by, wanted, NodeTable, Ready, Kids, Makeable, Grows, Made, together}
 use Rattle.build.proofs.Makes.{make_stuck, store_more, grown_more, made_fine, made_chart, made_part, wanted_formed, wanted_timely}
 use Rattle.build.proofs.Steps.{grows_none}
 

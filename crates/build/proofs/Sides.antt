@@ -152,7 +152,7 @@ module _ (nodes : List (Option Node)) (shape : Shape) (store : Store nodes shape
         ∙ raised_chart nodes ns (Some w) (get_or es k none_edge)
         ∙ ap (λ e. chart nodes ns (raised (Some w) e)) (get_or-take n x.edges k none_edge kl)
 
-    pub side_kid_timely : some late (chart nodes (drop l shape) a) ≡ false → some late (chart nodes (drop (l + 1) shape) (raised (Some w) (get_or x.edges k none_edge))) ≡ false
+    side_kid_timely : some late (chart nodes (drop l shape) a) ≡ false → some late (chart nodes (drop (l + 1) shape) (raised (Some w) (get_or x.edges k none_edge))) ≡ false
     side_kid_timely h = ap (some late) (sym side_piece) ∙ piece_timely shape l (later (Some w) (body nodes (drop l shape) x)) k (ap (some late) (sym side_chart) ∙ h)
 
     -- the edge for a setting, raised: its chart, and that it is legal

@@ -1,5 +1,5 @@
 -- An edge at 0 above the device, once a pair is put, kid by kid. Assumes nothing.
-use Rattle.std.proofs.Common.{◌≡◌, ℕ, suc, ◌+◌, ◌-◌, ◌*◌, ◌<◌, ◌≤◌, false, List, length, get_or, take, drop, set, Some, None, Option, sym, refl, zero-add, ap, ◌∙◌, subst, arith, length-drop}
+use Rattle.std.proofs.Common.{◌≡◌, ℕ, suc, ◌+◌, ◌-◌, ◌*◌, ◌<◌, ◌≤◌, List, length, get_or, take, drop, set, Some, None, Option, sym, refl, zero-add, ap, ◌∙◌, subst, arith, length-drop}
 use Rattle.std.specs.List.{range_with_len, flat_map}
 use Rattle.std.proofs.lemmas.List.{drop_more, get_or-take, get_or-drop}
 use Rattle.std.proofs.lemmas.List.FromFn.{get_or-range_with_len}
@@ -13,7 +13,7 @@ use Rattle.model.specs.Lists.{some}
 use Rattle.model.specs.Scenes.{Shape, size}
 use Rattle.model.proofs.Charting.{put_length}
 use Rattle.parts.proofs.Tabulated.{put_below}
-use Rattle.store.specs.Stores.{none_edge, node_at, chart, Fine, Store}
+use Rattle.store.specs.Stores.{none_edge, node_at, chart, Fine}
 use Rattle.store.specs.Fillings.{Stuck}
 use Rattle.store.proofs.Grows.{chart_kept, fine_kept}
 use Rattle.build.specs.declared.node_store.NodeStore.{NodeStore}

@@ -4,12 +4,11 @@ use Rattle.std.proofs.lemmas.List.{drop_more, drop_all}
 use Rattle.nodes.specs.declared.edge.Edge.{Edge}
 use Rattle.nodes.specs.declared.node.Node.{Node}
 use Rattle.model.specs.Charts.{Time, at, plus, late}
-use Rattle.model.specs.Lists.{some}
 use Rattle.model.specs.Scenes.{Shape, Scene, SceneOf, size, rank}
 use Rattle.model.proofs.Ranks.{rank_less, scene_drop, scene_length, setting_less}
 use Rattle.parts.proofs.Tabulated.{at_piece, get_or_later}
-use Rattle.store.specs.Stores.{none_edge, node_at, chart, Fine}
-use Rattle.build.specs.Builds.{raised, piece, Ready, Legal}
+use Rattle.store.specs.Stores.{none_edge, node_at, chart}
+use Rattle.build.specs.Builds.{raised, Ready, Legal}
 use Rattle.build.proofs.Sides.{never_chart, side_kid, side_legal, side_timely}
 
 -- no time anywhere

@@ -1,4 +1,4 @@
-use Rattle.std.proofs.Common.{◌+◌, sym, drop, arith, rules}
+use Rattle.std.proofs.Common.{◌+◌, drop, arith, rules}
 use Rattle.build.proofs.Made.{Making, wanted_is, made_edge, made_none, made_timely}
 use Rattle.build.proofs.make.make.Goals.{After-highest-most}
 use Rattle.build.proofs.make.make.Goals as goal
