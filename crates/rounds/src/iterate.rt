@@ -5,7 +5,7 @@ ghost use Rattle.model.specs.Shelves.{on, bare};
 ghost use Rattle.rule.specs.Rule.{chart_after, rule};
 ghost use Rattle.rig.specs.Rigs.{contents};
 ghost use Rattle.steps.specs.Ends.{Made};
-ghost use Rattle.rounds.specs.Rounds.{rounds_after, Counted};
+ghost use Rattle.rounds.specs.Rounds.{rounds_after, Counted, Followed};
 
 use crate::rounds::*;
 use rig::frame::Rig;
@@ -26,9 +26,7 @@ fn settled<S: Shelf>(shelf: &S) -> bool
 fn repeat_rounds<S: Shelf>(rig: &Rig, round: &mut Round<S>) -> Result<u64, PlanFault>
     requires shape { (S.meaning round.old.shelf.now).shape ≡ (contents rig.now).settings }
     requires first { slice_index_or (S.meaning round.old.shelf.now).pegs 0 None ≡ Some (chart_after (contents rig.now) 0) }
-    ensures made { Made (S.meaning round.old.shelf.now) (rounds_after (contents rig.now) 0) result (S.meaning round.new.shelf.now) }
-    ensures counted { Counted (contents rig.now) result }
-    ensures same_shelf { round.new.shelf.ghost_name ≡ round.old.shelf.ghost_name }
+    ensures followed { Followed S.meaning (contents rig.now) round.old (rounds_after (contents rig.now) 0) result round.new }
 {
     let mut changed = 0;
     loop {
@@ -46,9 +44,7 @@ fn repeat_rounds<S: Shelf>(rig: &Rig, round: &mut Round<S>) -> Result<u64, PlanF
 fn follow<S: Shelf>(rig: &Rig, round: &mut Round<S>) -> Result<u64, PlanFault>
     requires shape { (S.meaning round.old.shelf.now).shape ≡ (contents rig.now).settings }
     requires zeroth { round.old.number ≡ 0 }
-    ensures made { Made (S.meaning round.old.shelf.now) (rule (contents rig.now)) result (S.meaning round.new.shelf.now) }
-    ensures counted { Counted (contents rig.now) result }
-    ensures same_shelf { round.new.shelf.ghost_name ≡ round.old.shelf.ghost_name }
+    ensures followed { Followed S.meaning (contents rig.now) round.old (rule (contents rig.now)) result round.new }
 {
     before_rounds(round, rig.masks())?;
     repeat_rounds(rig, round)
