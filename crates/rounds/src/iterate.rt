@@ -23,12 +23,15 @@ fn settled<S: Shelf>(shelf: &S) -> bool
 }
 
 /// Takes rounds until one makes no scene cheaper, and answers how many did.
+// That the rig and the shelf are of one shape is asked here, below, and where a plan is searched: the calls change the
+// shelf, so a type of both would owe this anew after each of them.
 fn repeat_rounds<S: Shelf>(rig: &Rig, round: &mut Round<S>) -> Result<u64, PlanFault>
     requires shape { (S.meaning round.old.shelf.now).shape ≡ (contents rig.now).settings }
     requires first { slice_index_or (S.meaning round.old.shelf.now).pegs 0 None ≡ Some (chart_after (contents rig.now) 0) }
     ensures followed { Followed S.meaning (contents rig.now) round.old (rounds_after (contents rig.now) 0) result round.new }
 {
     let mut changed = 0;
+    // A loop: a `for` over `0..` ends by a statement, so an `unreachable!()` with a proof of its own would stand below it.
     loop {
         round.number = changed + 1;
         one_round(round, rig.slots())?;
