@@ -43,21 +43,13 @@ fn repeat_rounds<S: Shelf>(rig: &Rig, round: &mut Round<S>) -> Result<u64, PlanF
     }
 }
 
-/// Follows the planning rule from round 0 to the round that makes no scene cheaper.
-fn follow<S: Shelf>(rig: &Rig, round: &mut Round<S>) -> Result<u64, PlanFault>
-    requires shape { (S.meaning round.old.shelf.now).shape ≡ (contents rig.now).settings }
-    requires zeroth { round.old.number ≡ 0 }
-    ensures followed { Followed S.meaning (contents rig.now) round.old (rule (contents rig.now)) result round.new }
-{
-    before_rounds(round, rig.masks())?;
-    repeat_rounds(rig, round)
-}
-
 /// Follows the planning rule up to the round that makes no scene cheaper, and answers how many made some cheaper.
 pub fn iterate<S: Shelf>(rig: &Rig, shelf: &mut S) -> Result<u64, PlanFault>
     requires shape { (S.meaning shelf.old).shape ≡ (contents rig.now).settings }
     ensures made { Made (S.meaning shelf.old) (rule (contents rig.now)) result (S.meaning shelf.new) }
     ensures counted { Counted (contents rig.now) result }
 {
-    follow(rig, &mut Round { shelf, number: 0 })
+    let mut round = Round { shelf, number: 0 };
+    before_rounds(&mut round, rig.masks())?;
+    repeat_rounds(rig, &mut round)
 }
