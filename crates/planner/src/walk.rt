@@ -47,6 +47,7 @@ fn beginning(rig: &Rig, time: u64) -> Point
     }
 }
 
+// `Stands` is asked thrice: it relates a point to this walk, and a type that holds both would be made for each point.
 impl<'a, S: Shelf> Walk<'a, S> {
     /// Where a move leads, if it may be made and loses no time.
     fn led_by_move(&self, point: &Point, entry: &Move) -> Option<Point>
@@ -99,6 +100,7 @@ impl<'a, S: Shelf> Walk<'a, S> {
     {
         let mut point = beginning(self.rig, time);
         let mut moves = 0;
+        // By hand: `fold` asks that its iterator ends, and `successors` has no end that a contract could name.
         while point.left > 0 {
             let stride = self.next_stride(&point);
             set_in(sheet, moves, stride.number);
