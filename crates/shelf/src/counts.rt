@@ -27,12 +27,14 @@ pub(crate) fn place(settings: &[u8], scene: &[u8]) -> Result<usize, ShelfFault>
     if scene.len() != settings.len() {
         return Err(ShelfFault::CountsOff);
     }
-    let mut place = 0;
-    for (setting, count) in scene.iter().zip(settings) {
-        if setting >= count {
-            return Err(ShelfFault::SettingHigh);
-        }
-        place = place * usize::from(*count) + usize::from(*setting);
-    }
-    Ok(place)
+    scene
+        .iter()
+        .zip(settings)
+        .try_fold(0, |place, (setting, count)| {
+            if setting < count {
+                Ok(place * usize::from(*count) + usize::from(*setting))
+            } else {
+                Err(ShelfFault::SettingHigh)
+            }
+        })
 }
