@@ -29,6 +29,7 @@ pub record Led (p : ℕ) (ns : Shape) (xs : Scene) (q : ℕ) (ms : Shape) (ys : 
   pub tests : some_two leb ms ys ≡ some_two leb ns xs
   pub low : (q + 1) * size ms ≤ (p + 1) * size ns
 
+-- one setting more
 led_one : (p x n : ℕ) (ns : Shape) (xs : Scene) → length (x ∷ xs) ≡ length (n ∷ ns) → some count_off (n ∷ ns) ≡ false → x < n → Led p (n ∷ ns) (x ∷ xs) (p * n + x) ns xs
 led_one p x n ns xs long legal low =
     record {
@@ -39,6 +40,7 @@ led_one p x n ns xs long legal low =
       low = omega (arith, mul-le (p * n + x + 1) (size ns) ((p + 1) * n) (size ns) (omega (arith, low)) (omega arith));
     }
 
+-- and one after another
 led_on : (p : ℕ) (ns : Shape) (xs : Scene) (q : ℕ) (ms : Shape) (ys : Scene) (r : ℕ) (ls : Shape) (zs : Scene) → Led p ns xs q ms ys → Led q ms ys r ls zs → Led p ns xs r ls zs
 led_on p ns xs q ms ys r ls zs a b = record { long = b.long; legal = b.legal; place = b.place ∙ a.place; tests = b.tests ∙ a.tests; low = omega (arith, a.low, b.low) }
 
@@ -53,7 +55,7 @@ counts_of s = iter_rest (zip_second s)
 
 -- the turns of a fold over both lists
 module _ {F : Type 0} (R : F × ℕ → Bor ℕ × Bor ℕ → F × ℕ → Type 0) (turn : (p : F × ℕ) (x : Bor ℕ × Bor ℕ) (q : F × ℕ) → R p x q → (x.0.now < x.1.now) × (q.1 ≡ p.1 * x.1.now + x.0.now)) where
-  pub led : (zs : List (Bor ℕ × Bor ℕ)) (s t : Both) (p q : F × ℕ) → Yields (zips fronts fronts) s zs t → FoldsTo R p zs q
+  led : (zs : List (Bor ℕ × Bor ℕ)) (s t : Both) (p q : F × ℕ) → Yields (zips fronts fronts) s zs t → FoldsTo R p zs q
       → length (settings_of s) ≡ length (counts_of s) → some count_off (counts_of s) ≡ false → Led p.1 (counts_of s) (settings_of s) q.1 (counts_of t) (settings_of t)
   led [] s t p q y c long legal =
       subst (λ (u : Both). Led p.1 (counts_of s) (settings_of s) q.1 (counts_of u) (settings_of u)) y
