@@ -31,10 +31,8 @@ pub(crate) fn place(settings: &[u8], scene: &[u8]) -> Result<usize, ShelfFault>
         .iter()
         .zip(settings)
         .try_fold(0, |place, (setting, count)| {
-            if setting < count {
-                Ok(place * usize::from(*count) + usize::from(*setting))
-            } else {
-                Err(ShelfFault::SettingHigh)
-            }
+            (setting < count)
+                .then(|| place * usize::from(*count) + usize::from(*setting))
+                .ok_or(ShelfFault::SettingHigh)
         })
 }
