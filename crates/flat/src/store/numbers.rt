@@ -19,7 +19,7 @@ pub(crate) fn peg_of(number: u8) -> Result<Peg, ShelfFault>
     ensures { MatchResult result (λ p. p.number ≡ number) (High ShelfFault.PegHigh peg_count number) }
 {
     let peg = usize::from(number);
-    // Not `then_some` and `ok_or`: a peg is made only where the test says that it is low.
+    // Not `then` and `ok_or`: the closure that makes a peg would ask once more, by a clause of its own, that it is low.
     if peg < PEGS {
         Ok(Peg { number: peg })
     } else {
