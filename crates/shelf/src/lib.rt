@@ -6,3 +6,4 @@ mod counts;
 pub mod fault;
 pub mod shape;
 pub mod sides;
+pub mod words;
