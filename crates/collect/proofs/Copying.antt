@@ -60,6 +60,16 @@ pub record Side (source : List (Option Node)) (shape : Shape) (l : ℕ) (e : Edg
 pub side_at : {source : List (Option Node)} {shape : Shape} (l : ℕ) (e : Edge) → Store source shape → l < length shape → Fine source (drop l shape) l e → Side source shape l e
 side_at l e store lt fine = record { store = store; lt = lt; fine = fine }
 
+-- such an edge, the node that it leads to, and that none of its times is late
+pub record Turn (source : List (Option Node)) (shape : Shape) (l : ℕ) (e : Edge) (x : Node) : Type 0 where
+  pub side : Side source shape l e
+  pub node : x ≡ node_at source e.child
+  pub timely : late (below source (drop l shape) e) ≡ false
+
+-- in the same slots later
+pub turn_at : {now source : List (Option Node)} {shape : Shape} {x : Node} (l : ℕ) (e : Edge) → now ≡ source → Store source shape → l < length shape → Fine source (drop l shape) l e → x ≡ node_at source e.child → late (below source (drop l shape) e) ≡ false → Turn now shape l e x
+turn_at {now} {source} {shape} {x} l e same store lt fine node timely = subst (λ s. Turn s shape l e x) (sym same) (record { side = side_at l e store lt fine; node = node; timely = timely })
+
 -- what stands at a setting of the device
 pub record Item (source : List (Option Node)) (shape : Shape) (l : ℕ) (e : Edge) (i : ℕ) (kid : Edge) : Type 0 where
   pub below : i < get_or shape l 0
