@@ -31,8 +31,8 @@ impl Collector<'_> {
         taken(self.moved, usize::from(i))
     }
 
-    /// The edge with the chart of `e` in the spare store, into which the nodes that it reaches are copied, each once; none
-    /// where no slot is free for one.
+    /// The edge with the chart of `e` in the spare store, into which the nodes that it reaches are copied, each once;
+    /// none where no slot is free for one.
     pub fn copy(&mut self, level: usize, e: Edge) -> Option<Edge>
         requires depth { level ≤ length (shape_in self.old.spare.now) }
         requires store { Store self.old.source.now (shape_in self.old.spare.now) }
