@@ -5,7 +5,7 @@ ghost use Rattle.store.specs.Stores.{chart, below, Fine, Store};
 ghost use Rattle.build.specs.Builds.{Built};
 ghost use Rattle.build.specs.Grew.{nodes_in, shape_in, Grew};
 ghost use Rattle.collect.specs.Copies.{Moved};
-ghost use Rattle.collect.specs.Collecting.{Lasts};
+ghost use Rattle.collect.specs.Once.{moved_prop};
 
 use crate::moved::note;
 use build::node_store::NodeStore;
@@ -14,15 +14,18 @@ use nodes::edge::{Edge, NEVER};
 use nodes::node::Node;
 use table::slots::taken;
 
-/// The slots whose nodes are copied, the store that they are copied into, and notes of where each was copied.
+/// The slots whose nodes are copied, the store that they are copied into, and notes of where each was copied, all right.
 #[derive(Drop)]
 pub struct Collector<'a> {
     pub source: &'a [Option<Node>],
     pub spare: &'a mut NodeStore,
     pub moved: &'a mut [Option<u16>],
+    ghost right: { Moved source.now (nodes_in spare.now) (shape_in spare.now) moved.now } by { moved_prop source.now (nodes_in spare.now) (shape_in spare.now) moved.now },
 }
 
 impl Collector<'_> {
+    ghost use Rattle.collect.specs.Collecting.{Lasts};
+
     /// The slot that the node in a slot was copied to, if it was.
     // A method: in `copy`, once `taken(self.moved, ..)` has read the notes, a proof knows none of them any more.
     fn copied(&self, i: u16) -> Option<u16>
@@ -36,12 +39,10 @@ impl Collector<'_> {
     pub fn copy(&mut self, level: usize, e: Edge) -> Option<Edge>
         requires depth { level ≤ length (shape_in self.old.spare.now) }
         requires store { Store self.old.source.now (shape_in self.old.spare.now) }
-        requires moved { Moved self.old.source.now (nodes_in self.old.spare.now) (shape_in self.old.spare.now) self.old.moved.now }
         requires fine { Fine self.old.source.now (drop level (shape_in self.old.spare.now)) level e }
         requires timely { late (below self.old.source.now (drop level (shape_in self.old.spare.now)) e) ≡ false }
         ensures lasts { Lasts self.old self.new }
         ensures grew { Grew self.old.spare.now self.new.spare.now level (chart self.old.source.now (drop level (shape_in self.old.spare.now)) e) }
-        ensures moved { Moved self.old.source.now (nodes_in self.new.spare.now) (shape_in self.old.spare.now) self.new.moved.now }
         ensures built { Built (nodes_in self.new.spare.now) (shape_in self.old.spare.now) level (chart self.old.source.now (drop level (shape_in self.old.spare.now)) e) result }
     {
         if level == self.spare.devices() {

@@ -3,9 +3,6 @@ use Rattle.collect.proofs.Lasting.{lasts_on}
 use Rattle.pegs.proofs.Sweeps.{swept_more}
 use Rattle.pegs.proofs.sweep.copy_pegs.Goals as goal
 
-pub copy_peg-requires-clause-moved : goal.copy_peg-requires-clause-moved
-copy_peg-requires-clause-moved c = rw (c.loop-peg.invariant.0.source, c.loop-peg.invariant.1) c.loop-peg.invariant.3
-
 pub loop-peg-preserved : goal.loop-peg-preserved
 loop-peg-preserved c =
     let lasts = c.loop-peg.invariant.0 in
@@ -15,5 +12,4 @@ loop-peg-preserved c =
       lasts_on lasts got.lasts,
       more.0 ∙ shape,
       rw (← shape) more.1,
-      rw (← lasts.source, ← shape) got.moved,
     )
