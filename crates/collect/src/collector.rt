@@ -2,6 +2,7 @@ ghost use Rattle.std.specs.Prelude.{◌≡◌, ◌≤◌, false, length, drop};
 ghost use Rattle.table.specs.Tables.{slot};
 ghost use Rattle.model.specs.Charts.{late};
 ghost use Rattle.store.specs.Stores.{chart, below, Fine, Store};
+ghost use Rattle.store.specs.Once.{store_prop};
 ghost use Rattle.build.specs.Builds.{Built};
 ghost use Rattle.build.specs.Grew.{nodes_in, shape_in, Grew};
 ghost use Rattle.collect.specs.Copies.{Moved};
@@ -20,6 +21,7 @@ pub struct Collector<'a> {
     pub source: &'a [Option<Node>],
     pub spare: &'a mut NodeStore,
     pub moved: &'a mut [Option<u16>],
+    ghost store: { Store source.now (shape_in spare.now) } by { store_prop source.now (shape_in spare.now) },
     ghost right: { Moved source.now (nodes_in spare.now) (shape_in spare.now) moved.now } by { moved_prop source.now (nodes_in spare.now) (shape_in spare.now) moved.now },
 }
 
@@ -38,7 +40,6 @@ impl Collector<'_> {
     /// none where no slot is free for one.
     pub fn copy(&mut self, level: usize, e: Edge) -> Option<Edge>
         requires depth { level ≤ length (shape_in self.old.spare.now) }
-        requires store { Store self.old.source.now (shape_in self.old.spare.now) }
         requires fine { Fine self.old.source.now (drop level (shape_in self.old.spare.now)) level e }
         requires timely { late (below self.old.source.now (drop level (shape_in self.old.spare.now)) e) ≡ false }
         ensures lasts { Lasts self.old self.new }

@@ -1,6 +1,5 @@
 ghost use Rattle.std.specs.Prelude.{◌≡◌, length};
 ghost use Rattle.std.specs.List.{AllByRecursion};
-ghost use Rattle.store.specs.Stores.{Store};
 ghost use Rattle.build.specs.Grew.{nodes_in, shape_in};
 ghost use Rattle.collect.specs.Collecting.{Lasts};
 ghost use Rattle.pegs.specs.Held.{Alike, Held, Collected, Swept, peg_fine, CopiesPeg};
@@ -12,7 +11,6 @@ use nodes::edge::Edge;
 
 /// What a peg carries, copied into the spare store; a bare peg stays bare.
 fn copy_peg(collector: &mut Collector<'_>, peg: Option<Edge>) -> Option<Edge>
-    requires store { Store collector.old.source.now (shape_in collector.old.spare.now) }
     requires fine { peg_fine collector.old.source.now (shape_in collector.old.spare.now) peg }
     ensures lasts { Lasts collector.old collector.new }
     ensures copies { CopiesPeg collector.old.source.now collector.old.spare.now collector.new.spare.now peg result }
@@ -22,7 +20,6 @@ fn copy_peg(collector: &mut Collector<'_>, peg: Option<Edge>) -> Option<Edge>
 
 /// Copies what each peg carries into the spare store.
 fn copy_pegs(collector: &mut Collector<'_>, pegs: &mut [Option<Edge>])
-    requires store { Store collector.old.source.now (shape_in collector.old.spare.now) }
     requires fine { AllByRecursion (peg_fine collector.old.source.now (shape_in collector.old.spare.now)) pegs.old }
     requires start { Swept collector.old.source.now (nodes_in collector.old.spare.now) (shape_in collector.old.spare.now) pegs.old pegs.old 0 }
     ensures lasts { Lasts collector.old collector.new }

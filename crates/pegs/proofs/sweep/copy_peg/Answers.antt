@@ -10,4 +10,4 @@ copy-requires-clause-timely c =
     let shape = shape_in c.args.collector.now.spare.now in
     let e = c.in_ok-peg.field-0 in
     let fine : peg_fine source shape (Some e) = subst (peg_fine source shape) c.in_ok-peg.was c.requires.fine in
-    chart_below source shape c.requires.store 0 e fine.0 fine.1
+    chart_below source shape c.args.collector.now.store 0 e fine.0 fine.1

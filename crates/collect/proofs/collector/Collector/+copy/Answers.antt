@@ -14,32 +14,32 @@ loop-i-init t c = (record { source = refl; same_spare = refl; same_moved = refl 
 pub invariant_of-self-3 : goal.invariant_of-self-3
 invariant_of-self-3 t c =
     let filled = c.loop-i.invariant.1 in
-    let turn = turn_at c.args.level c.args.e c.loop-i.invariant.0.source c.requires.store (omega arith) c.requires.fine c.node_at-node.ensures c.requires.timely in
+    let turn = turn_at c.args.level c.args.e c.loop-i.invariant.0.source c.args.self.now.store (omega arith) c.requires.fine c.node_at-node.ensures c.requires.timely in
     let all = all_passed turn.side c.loop-i.i c.count-count.ensures.value turn.node c.loop-i-test.false c.loop-i.auto.i-end in
     let got = c.make.ensures in
     let right : Moved c.loop-i.self.source.now (nodes_in c.make.new.self) (shape_in c.make.new.self) c.loop-i.self.moved.now = rw (got.grew.same, filled.begun.same) (still_moved turn.side filled all got.grew) in
-    record { right = right }
+    record { store = rw got.grew.same c.loop-i.self.store; right = right }
 
 pub invariant_of-self-4 : goal.invariant_of-self-4
 invariant_of-self-4 t c =
     let filled = c.loop-i.invariant.1 in
-    let turn = turn_at c.args.level c.args.e c.loop-i.invariant.0.source c.requires.store (omega arith) c.requires.fine c.node_at-node.ensures c.requires.timely in
+    let turn = turn_at c.args.level c.args.e c.loop-i.invariant.0.source c.args.self.now.store (omega arith) c.requires.fine c.node_at-node.ensures c.requires.timely in
     let all = all_passed turn.side c.loop-i.i c.count-count.ensures.value turn.node c.loop-i-test.false c.loop-i.auto.i-end in
     let got = c.in_ok-made.ensures in
     let right : Moved c.loop-i.self.source.now (nodes_in c.make.new.self) (shape_in c.make.new.self) c.note.new.moved = rw (got.grew.same, filled.begun.same) (filled_noted turn.side filled all got.grew c.in_ok-made.made got.built c.note.new.moved c.note.ensures) in
-    record { right = right }
+    record { store = rw got.grew.same c.loop-i.self.store; right = right }
 
 pub copy-requires : goal.copy-requires
 copy-requires t c =
     let filled = c.loop-i.invariant.1 in
-    let turn = turn_at c.args.level c.args.e c.loop-i.invariant.0.source c.requires.store (omega arith) c.requires.fine c.node_at-node.ensures c.requires.timely in
+    let turn = turn_at c.args.level c.args.e c.loop-i.invariant.0.source c.args.self.now.store (omega arith) c.requires.fine c.node_at-node.ensures c.requires.timely in
     let item = item_at turn.side c.loop-i.i c.count-count.ensures.value turn.node c.loop-i-test.true in
     let next = next_kid turn.side filled item turn.timely in
-    (omega (arith, ap length filled.begun.same, turn.side.lt), (next.depth, (next.store, (next.fine, next.timely))))
+    (omega (arith, ap length filled.begun.same, turn.side.lt), (next.depth, (next.fine, next.timely)))
 
 pub loop-i-preserved : goal.loop-i-preserved
 loop-i-preserved t c =
-    let turn = turn_at c.args.level c.args.e c.loop-i.invariant.0.source c.requires.store (omega arith) c.requires.fine c.node_at-node.ensures c.requires.timely in
+    let turn = turn_at c.args.level c.args.e c.loop-i.invariant.0.source c.args.self.now.store (omega arith) c.requires.fine c.node_at-node.ensures c.requires.timely in
     let item = item_at turn.side c.loop-i.i c.count-count.ensures.value turn.node c.loop-i-test.true in
     let got = c.in_ok-kids.ensures in
     (lasts_on c.loop-i.invariant.0 got.lasts, rw got.lasts.source (filled_more turn.side c.loop-i.invariant.1 item got.grew c.copy.new.self.moved.now c.in_ok-kids.field-0 got.built (rw (← got.lasts.source, ← got.grew.same) c.copy.new.self.right)))
@@ -48,7 +48,7 @@ pub returns-in_err-kids : goal.returns-in_err-kids
 returns-in_err-kids t c =
     let same = c.loop-i.invariant.0.source in
     let filled = c.loop-i.invariant.1 in
-    let turn = turn_at c.args.level c.args.e same c.requires.store (omega arith) c.requires.fine c.node_at-node.ensures c.requires.timely in
+    let turn = turn_at c.args.level c.args.e same c.args.self.now.store (omega arith) c.requires.fine c.node_at-node.ensures c.requires.timely in
     let item = item_at turn.side c.loop-i.i c.count-count.ensures.value turn.node c.loop-i-test.true in
     let got = c.in_err-kids.ensures in
     record {
@@ -59,7 +59,7 @@ returns-in_err-kids t c =
 
 pub make-requires : goal.make-requires
 make-requires t c =
-    let turn = turn_at c.args.level c.args.e c.loop-i.invariant.0.source c.requires.store (omega arith) c.requires.fine c.node_at-node.ensures c.requires.timely in
+    let turn = turn_at c.args.level c.args.e c.loop-i.invariant.0.source c.args.self.now.store (omega arith) c.requires.fine c.node_at-node.ensures c.requires.timely in
     let all = all_passed turn.side c.loop-i.i c.count-count.ensures.value turn.node c.loop-i-test.false c.loop-i.auto.i-end in
     filled_makeable turn.side c.loop-i.invariant.1 all turn.timely
 
@@ -67,7 +67,7 @@ pub returns-in_err-made : goal.returns-in_err-made
 returns-in_err-made t c =
     let same = c.loop-i.invariant.0.source in
     let filled = c.loop-i.invariant.1 in
-    let turn = turn_at c.args.level c.args.e same c.requires.store (omega arith) c.requires.fine c.node_at-node.ensures c.requires.timely in
+    let turn = turn_at c.args.level c.args.e same c.args.self.now.store (omega arith) c.requires.fine c.node_at-node.ensures c.requires.timely in
     let all = all_passed turn.side c.loop-i.i c.count-count.ensures.value turn.node c.loop-i-test.false c.loop-i.auto.i-end in
     let got = c.in_err-made.ensures in
     record {
@@ -80,7 +80,7 @@ pub returns : goal.returns
 returns t c =
     let same = c.loop-i.invariant.0.source in
     let filled = c.loop-i.invariant.1 in
-    let turn = turn_at c.args.level c.args.e same c.requires.store (omega arith) c.requires.fine c.node_at-node.ensures c.requires.timely in
+    let turn = turn_at c.args.level c.args.e same c.args.self.now.store (omega arith) c.requires.fine c.node_at-node.ensures c.requires.timely in
     let all = all_passed turn.side c.loop-i.i c.count-count.ensures.value turn.node c.loop-i-test.false c.loop-i.auto.i-end in
     let got = c.in_ok-made.ensures in
     record {
