@@ -226,13 +226,11 @@ module _ {source : List (Option Node)} {first mid : NodeStore} {moved : List (Op
     -- what its copy asks, over a shape
     pub record Next (shape : Shape) : Type 0 where
       pub depth : l + 1 ≤ length shape
-      pub store : Store source shape
-      pub noted : Moved source (nodes_in mid) shape moved
       pub fine : Fine source (drop (l + 1) shape) (l + 1) kid
       pub timely : late (below source (drop (l + 1) shape) kid) ≡ false
 
     pub next_kid : late (below source (drop l (shape_in first)) e) ≡ false → Next (shape_in mid)
-    next_kid h = subst Next (sym f.begun.same) (record { depth = omega (arith, side.lt); store = side.store; noted = f.noted; fine = kid_fine side item; timely = kid_timely side item h })
+    next_kid h = subst Next (sym f.begun.same) (record { depth = omega (arith, side.lt); fine = kid_fine side item; timely = kid_timely side item h })
 
     abbrev part : Chart
     part = chart source (drop (l + 1) (shape_in mid)) kid
@@ -247,7 +245,7 @@ module _ {source : List (Option Node)} {first mid : NodeStore} {moved : List (Op
       pub filled_stuck : Stuck (nodes_in new) (shape_in mid) (l + 1) part → Stuck (nodes_in new) (shape_in first) l whole
       filled_stuck s = whole_stuck new (stuck_next first mid new l inner i kids side.lt f.begun part item.below part_is g s)
 
-      pub filled_moved : (after : List (Option ℕ)) → Moved source (nodes_in new) (shape_in mid) after → Moved source (nodes_in new) (shape_in first) after
+      filled_moved : (after : List (Option ℕ)) → Moved source (nodes_in new) (shape_in mid) after → Moved source (nodes_in new) (shape_in first) after
       filled_moved after m = subst (λ s. Moved source (nodes_in new) s after) f.begun.same m
 
       pub filled_more : (after : List (Option ℕ)) (d : Edge) → Stands (nodes_in new) (shape_in mid) (l + 1) part d → Moved source (nodes_in new) (shape_in mid) after → Filled source first new after l e (i + 1) (set kids i d)

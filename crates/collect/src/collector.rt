@@ -15,7 +15,7 @@ use nodes::edge::{Edge, NEVER};
 use nodes::node::Node;
 use table::slots::taken;
 
-/// The slots whose nodes are copied, the store that they are copied into, and notes of where each was copied, all right.
+/// The slots whose nodes are copied, the store that they are copied into, and right notes of where each was copied.
 #[derive(Drop)]
 pub struct Collector<'a> {
     pub source: &'a [Option<Node>],
