@@ -1,3 +1,2 @@
--- what hanging leaves: Hanging; what a call answers: Calling
+-- what hanging leaves: Hanging
 pub mod Hanging
-pub mod Calling
