@@ -19,15 +19,15 @@ use Rattle.model.specs.Scenes.{Shape, size}
 use Rattle.model.proofs.Charting.{zipped_length}
 use Rattle.parts.specs.Shifts.{later}
 use Rattle.parts.proofs.Pieces.{parts_later}
-use Rattle.store.specs.Stores.{none_edge, node_at, chart, body, Fine, Store}
+use Rattle.store.specs.Stores.{none_edge, node_at, chart, body, Store}
 use Rattle.store.specs.Fillings.{Stuck}
 use Rattle.store.proofs.Grows.{chart_kept, fine_kept}
-use Rattle.build.specs.Builds.{raised, piece, Makeable, Built, Stands, together}
+use Rattle.build.specs.Builds.{raised, piece, Legal, Makeable, Built, Stands, together}
 use Rattle.build.specs.Grew.{nodes_in, shape_in, Grew, Begun}
 use Rattle.build.specs.declared.node_store.NodeStore.{NodeStore}
 use Rattle.build.proofs.Grown.{grew_alike, grew_next, stuck_next, begun_next, begun_makeable, grew_made, built_made}
 use Rattle.build.proofs.Steps.{stuck_wider}
-use Rattle.build.proofs.Sides.{piece_timely, lower_timely, earlier_timely, moved_fine, from_zero, raise_timely, raise_stands, side_formed, side_chart, side_long, side_fine, side_piece, side_kid_timely, side_timely}
+use Rattle.build.proofs.Sides.{piece_timely, lower_timely, earlier_timely, moved_fine, from_zero, raise_timely, raise_stands, side_formed, side_chart, side_long, side_piece, side_legal, side_timely}
 use Rattle.memo.specs.Operations.{entry}
 use Rattle.memo.specs.Results.{Right}
 use Rattle.apply.specs.Joins.{goal, Joinable}
@@ -71,18 +71,19 @@ module _ {op : Op} {nodes : List (Option Node)} {shape : Shape} {l : ℕ} {a b :
       ∙ ap (λ (w : Weights). later (Some w.base) (zipped (entry op) (later (Some w.left) A) (later (Some w.right) B))) (sym s.hw)
       ∙ ap (later (Some ws.base)) (sym (λ i. zipped (entry op) (u i) (v i)))
 
-  -- it has no late time
-  left_over : (e : Edge) (w v : ℕ) → e.weight ≡ Some w → v ≤ w → some late (chart nodes (drop l shape) e) ≡ false → some late (chart nodes (drop l shape) (edge_of (rest_of e v))) ≡ false
+  -- it is legal
+  left_over : (e : Edge) (w v : ℕ) → e.weight ≡ Some w → v ≤ w → Legal nodes shape l e → Legal nodes shape l (edge_of (rest_of e v))
   left_over e w v h low t =
       let ns = drop l shape in
-      ap (some late) (from_zero nodes ns v (edge_of (rest_of e v)) refl) ∙ lower_timely v w (chart nodes ns (edge_of (rest_of e 0))) low (ap (some late) (sym (from_zero nodes ns w e h)) ∙ t)
+      record {
+        fine = moved_fine nodes ns l w v e h t.fine;
+        timely = ap (some late) (from_zero nodes ns v (edge_of (rest_of e v)) refl) ∙ lower_timely v w (chart nodes ns (edge_of (rest_of e 0))) low (ap (some late) (sym (from_zero nodes ns w e h)) ∙ t.timely);
+      }
 
   pub rest_joinable : Joinable op nodes shape l (edge_of (rest_of a ws.left)) (edge_of (rest_of b ws.right))
   rest_joinable = record {
-    left = moved_fine nodes (drop l shape) l wa ws.left a s.ha s.able.left;
-    right = moved_fine nodes (drop l shape) l wb ws.right b s.hb s.able.right;
-    left_timely = left_over a wa ws.left s.ha (subst (λ (w : Weights). w.left ≤ wa) (sym s.hw) (split_left op wa wb)) s.able.left_timely;
-    right_timely = left_over b wb ws.right s.hb (subst (λ (w : Weights). w.right ≤ wb) (sym s.hw) (split_right op wa wb)) s.able.right_timely;
+    left = left_over a wa ws.left s.ha (subst (λ (w : Weights). w.left ≤ wa) (sym s.hw) (split_left op wa wb)) s.able.left;
+    right = left_over b wb ws.right s.hb (subst (λ (w : Weights). w.right ≤ wb) (sym s.hw) (split_right op wa wb)) s.able.right;
     timely = earlier_timely ws.base inner (ap (some late) (sym whole_is) ∙ s.able.timely);
   }
 
@@ -127,7 +128,7 @@ edges_of old x n = take n (node_at (nodes_in old) x.child).edges
 -- those of both, gone through in step
 module _ {op : Op} {old : NodeStore} {l : ℕ} {x y : TimedEdge} (pair : Pair op old l x y) {n : ℕ} {s : Enumerate (Zip (Iter Edge) (Iter Edge))} (ahead : Ahead (edges_of old x n) (edges_of old y n) s) (count : n ≡ get_or (shape_in old) l 0) where
   wide : length (edges_of old x n) ≡ n
-  wide = subst (λ m. length (edges_of old x m) ≡ m) (sym count) (side_formed (nodes_in old) (shape_in old) old.ready.store l pair.lt (edge_of x) x.weight (node_at (nodes_in old) x.child) pair.able.left refl refl).wide
+  wide = subst (λ m. length (edges_of old x m) ≡ m) (sym count) (side_formed (nodes_in old) (shape_in old) old.ready.store l pair.lt (edge_of x) x.weight (node_at (nodes_in old) x.child) pair.able.left.fine refl refl).wide
 
   module _ (t : Enumerate (Zip (Iter Edge) (Iter Edge))) {r : Option (ℕ × (Bor Edge × Bor Edge))} where
     pub two_all : r ≡ None → enumerate_steps (zips fronts fronts) s r t → enumerate_count s ≡ get_or (shape_in old) l 0
@@ -174,14 +175,14 @@ module _ {op : Op} {old : NodeStore} {l : ℕ} {x y : TimedEdge} (pair : Pair op
   -- as charts of the two nodes
   aim_is : aim ≡ zipped (entry op) (later (Some x.weight) (body nodes (drop l shape) (node_at nodes x.child))) (later (Some y.weight) (body nodes (drop l shape) (node_at nodes y.child)))
   aim_is =
-      let p = side_chart nodes shape old.ready.store l lt (edge_of x) x.weight (node_at nodes x.child) able.left refl refl in
-      let q = side_chart nodes shape old.ready.store l lt (edge_of y) y.weight (node_at nodes y.child) able.right refl refl in
+      let p = side_chart nodes shape old.ready.store l lt (edge_of x) x.weight (node_at nodes x.child) able.left.fine refl refl in
+      let q = side_chart nodes shape old.ready.store l lt (edge_of y) y.weight (node_at nodes y.child) able.right.fine refl refl in
       λ i. zipped (entry op) (p i) (q i)
 
   aim_long : length aim ≡ get_or shape l 0 * size (drop (l + 1) shape)
   aim_long =
-      let p = side_long nodes shape old.ready.store l lt (edge_of x) x.weight (node_at nodes x.child) able.left refl refl in
-      let q = side_long nodes shape old.ready.store l lt (edge_of y) y.weight (node_at nodes y.child) able.right refl refl in
+      let p = side_long nodes shape old.ready.store l lt (edge_of x) x.weight (node_at nodes x.child) able.left.fine refl refl in
+      let q = side_long nodes shape old.ready.store l lt (edge_of y) y.weight (node_at nodes y.child) able.right.fine refl refl in
       ap length aim_is ∙ zipped_length (entry op) (later (Some x.weight) (body nodes (drop l shape) (node_at nodes x.child))) (later (Some y.weight) (body nodes (drop l shape) (node_at nodes y.child))) (p ∙ sym q) ∙ p
 
   module _ (i : ℕ) (il : i < get_or shape l 0) where
@@ -193,22 +194,22 @@ module _ {op : Op} {old : NodeStore} {l : ℕ} {x y : TimedEdge} (pair : Pair op
 
     -- the kids are raised in time
     pub raise_left : late (plus (Some x.weight) (get_or (node_at nodes x.child).edges i none_edge).weight) ≡ false
-    raise_left = side_timely nodes shape old.ready.store l lt (edge_of x) x.weight (node_at nodes x.child) able.left refl refl i il able.left_timely
+    raise_left = side_timely nodes shape old.ready.store l lt (edge_of x) x.weight (node_at nodes x.child) able.left.fine refl refl i il able.left.timely
 
     pub raise_right : late (plus (Some y.weight) (get_or (node_at nodes y.child).edges i none_edge).weight) ≡ false
-    raise_right = side_timely nodes shape old.ready.store l lt (edge_of y) y.weight (node_at nodes y.child) able.right refl refl i il able.right_timely
+    raise_right = side_timely nodes shape old.ready.store l lt (edge_of y) y.weight (node_at nodes y.child) able.right.fine refl refl i il able.right.timely
 
-    left_kid : Fine nodes (drop (l + 1) shape) (l + 1) left
-    left_kid = side_fine nodes shape old.ready.store l lt (edge_of x) x.weight (node_at nodes x.child) able.left refl refl i il
+    left_kid : Legal nodes shape (l + 1) left
+    left_kid = side_legal nodes shape old.ready.store l lt (edge_of x) x.weight (node_at nodes x.child) able.left.fine refl refl i il able.left.timely
 
-    right_kid : Fine nodes (drop (l + 1) shape) (l + 1) right
-    right_kid = side_fine nodes shape old.ready.store l lt (edge_of y) y.weight (node_at nodes y.child) able.right refl refl i il
+    right_kid : Legal nodes shape (l + 1) right
+    right_kid = side_legal nodes shape old.ready.store l lt (edge_of y) y.weight (node_at nodes y.child) able.right.fine refl refl i il able.right.timely
 
     kid_goal : goal op nodes shape (l + 1) left right ≡ piece shape l aim i
     kid_goal =
         let ns = drop (l + 1) shape in
-        let p = sym (side_piece nodes shape old.ready.store l lt (edge_of x) x.weight (node_at nodes x.child) able.left refl refl i il) in
-        let q = sym (side_piece nodes shape old.ready.store l lt (edge_of y) y.weight (node_at nodes y.child) able.right refl refl i il) in
+        let p = sym (side_piece nodes shape old.ready.store l lt (edge_of x) x.weight (node_at nodes x.child) able.left.fine refl refl i il) in
+        let q = sym (side_piece nodes shape old.ready.store l lt (edge_of y) y.weight (node_at nodes y.child) able.right.fine refl refl i il) in
         (λ j. zipped (entry op) (p j) (q j)) ∙ sym (zipped_piece (entry op) (get_or shape l 0) (size ns) i (later (Some x.weight) (body nodes (drop l shape) (node_at nodes x.child))) (later (Some y.weight) (body nodes (drop l shape) (node_at nodes y.child)))) ∙ ap (λ c. piece shape l c i) (sym aim_is)
 
   -- the node
@@ -229,11 +230,11 @@ module _ {op : Op} {old : NodeStore} {l : ℕ} {x y : TimedEdge} (pair : Pair op
           let grew = join_made in
           let at = join_built (Some e) st in
           let ns = drop l shape in
-          let p = chart_kept nodes (nodes_in new) grew.grows.kept shape old.ready.store ns l (edge_of x) refl able.left in
-          let q = chart_kept nodes (nodes_in new) grew.grows.kept shape old.ready.store ns l (edge_of y) refl able.right in
+          let p = chart_kept nodes (nodes_in new) grew.grows.kept shape old.ready.store ns l (edge_of x) refl able.left.fine in
+          let q = chart_kept nodes (nodes_in new) grew.grows.kept shape old.ready.store ns l (edge_of y) refl able.right.fine in
           subst (λ n. Right (nodes_in new) n (record { operation = Join op; level = l; left = edge_of x; right = edge_of y }) e) (sym grew.same) (record {
-            left = fine_kept nodes (nodes_in new) grew.grows.kept ns l (edge_of x) able.left;
-            right = fine_kept nodes (nodes_in new) grew.grows.kept ns l (edge_of y) able.right;
+            left = fine_kept nodes (nodes_in new) grew.grows.kept ns l (edge_of x) able.left.fine;
+            right = fine_kept nodes (nodes_in new) grew.grows.kept ns l (edge_of y) able.right.fine;
             stands = (at.0, at.1 ∙ sym (λ i. zipped (entry op) (p i) (q i)));
           })
 
@@ -244,27 +245,31 @@ module _ {op : Op} {old mid : NodeStore} {l : ℕ} {x y : TimedEdge} {i : ℕ} {
   abbrev whole : Chart
   whole = goal op (nodes_in old) (shape_in old) l (edge_of x) (edge_of y)
 
-  left_fine : Fine (nodes_in old) rest (l + 1) (left s.pair i s.below)
-  left_fine = left_kid s.pair i s.below
+  left_legal : Legal (nodes_in old) (shape_in old) (l + 1) (left s.pair i s.below)
+  left_legal = left_kid s.pair i s.below
 
-  right_fine : Fine (nodes_in old) rest (l + 1) (right s.pair i s.below)
-  right_fine = right_kid s.pair i s.below
+  right_legal : Legal (nodes_in old) (shape_in old) (l + 1) (right s.pair i s.below)
+  right_legal = right_kid s.pair i s.below
 
   left_same : chart (nodes_in mid) rest (left s.pair i s.below) ≡ chart (nodes_in old) rest (left s.pair i s.below)
-  left_same = chart_kept (nodes_in old) (nodes_in mid) s.way.way.grows.kept (shape_in old) old.ready.store rest (l + 1) (left s.pair i s.below) refl left_fine
+  left_same = chart_kept (nodes_in old) (nodes_in mid) s.way.way.grows.kept (shape_in old) old.ready.store rest (l + 1) (left s.pair i s.below) refl left_legal.fine
 
   right_same : chart (nodes_in mid) rest (right s.pair i s.below) ≡ chart (nodes_in old) rest (right s.pair i s.below)
-  right_same = chart_kept (nodes_in old) (nodes_in mid) s.way.way.grows.kept (shape_in old) old.ready.store rest (l + 1) (right s.pair i s.below) refl right_fine
+  right_same = chart_kept (nodes_in old) (nodes_in mid) s.way.way.grows.kept (shape_in old) old.ready.store rest (l + 1) (right s.pair i s.below) refl right_legal.fine
 
   goal_same : goal op (nodes_in mid) (shape_in old) (l + 1) (left s.pair i s.below) (right s.pair i s.below) ≡ piece (shape_in old) l whole i
   goal_same = let p = left_same in let q = right_same in (λ j. zipped (entry op) (p j) (q j)) ∙ kid_goal s.pair i s.below
 
   joinable_here : Joinable op (nodes_in mid) (shape_in old) (l + 1) (left s.pair i s.below) (right s.pair i s.below)
   joinable_here = record {
-    left = fine_kept (nodes_in old) (nodes_in mid) s.way.way.grows.kept rest (l + 1) (left s.pair i s.below) left_fine;
-    right = fine_kept (nodes_in old) (nodes_in mid) s.way.way.grows.kept rest (l + 1) (right s.pair i s.below) right_fine;
-    left_timely = ap (some late) left_same ∙ side_kid_timely (nodes_in old) (shape_in old) old.ready.store l s.pair.lt (edge_of x) x.weight (node_at (nodes_in old) x.child) s.pair.able.left refl refl i s.below s.pair.able.left_timely;
-    right_timely = ap (some late) right_same ∙ side_kid_timely (nodes_in old) (shape_in old) old.ready.store l s.pair.lt (edge_of y) y.weight (node_at (nodes_in old) y.child) s.pair.able.right refl refl i s.below s.pair.able.right_timely;
+    left = record {
+      fine = fine_kept (nodes_in old) (nodes_in mid) s.way.way.grows.kept rest (l + 1) (left s.pair i s.below) left_legal.fine;
+      timely = ap (some late) left_same ∙ left_legal.timely;
+    };
+    right = record {
+      fine = fine_kept (nodes_in old) (nodes_in mid) s.way.way.grows.kept rest (l + 1) (right s.pair i s.below) right_legal.fine;
+      timely = ap (some late) right_same ∙ right_legal.timely;
+    };
     timely = ap (some late) goal_same ∙ piece_timely (shape_in old) l whole i s.pair.able.timely;
   }
 

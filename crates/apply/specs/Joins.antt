@@ -6,8 +6,9 @@ use Rattle.nodes.specs.declared.remembered.Op.{Op}
 use Rattle.model.specs.Charts.{Chart, zipped, late}
 use Rattle.model.specs.Lists.{some}
 use Rattle.model.specs.Scenes.{Shape}
-use Rattle.store.specs.Stores.{chart, Fine}
+use Rattle.store.specs.Stores.{chart}
 use Rattle.store.specs.Fillings.{Stuck}
+use Rattle.build.specs.Builds.{Legal}
 use Rattle.build.specs.Grew.{nodes_in, shape_in, Grew, Begun}
 use Rattle.build.specs.declared.node_store.NodeStore.{NodeStore}
 use Rattle.memo.specs.Operations.{entry}
@@ -16,12 +17,10 @@ use Rattle.memo.specs.Operations.{entry}
 abbrev pub goal : Op → List (Option Node) → Shape → ℕ → Edge → Edge → Chart
 goal op nodes shape l a b = zipped (entry op) (chart nodes (drop l shape) a) (chart nodes (drop l shape) b)
 
--- two edges that may be joined: no time of theirs is late, nor one of the result
+-- two edges that may be joined: each is legal, and no time of the result is late
 pub record Joinable (op : Op) (nodes : List (Option Node)) (shape : Shape) (l : ℕ) (a b : Edge) : Type 0 where
-  pub left : Fine nodes (drop l shape) l a
-  pub right : Fine nodes (drop l shape) l b
-  pub left_timely : some late (chart nodes (drop l shape) a) ≡ false
-  pub right_timely : some late (chart nodes (drop l shape) b) ≡ false
+  pub left : Legal nodes shape l a
+  pub right : Legal nodes shape l b
   pub timely : some late (goal op nodes shape l a b) ≡ false
 
 -- all kids of a node for a chart stand, or there was no room

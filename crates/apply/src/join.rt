@@ -66,8 +66,8 @@ fn join_nodes(
         operation: Operation::Join(op),
         // a shape has at most 12 devices
         level: level as u8,
-        left: x.edge(),
-        right: y.edge(),
+        left: Edge::from(x),
+        right: Edge::from(y),
     };
     if let Some(known) = diagrams.recall(&key) {
         return Some(known);
@@ -95,6 +95,7 @@ fn join_kids(
     let node_y = diagrams.store.node_at(y.child);
     let count = diagrams.store.count(level);
     let pairs = node_x.edges[..count].iter().zip(&node_y.edges[..count]);
+    // By a loop: `array::try_from_fn` says nothing of the store that its calls leave.
     let mut kids = [NEVER; 8];
     for (i, (a, b)) in pairs.enumerate() {
         let left = raise(*a, x.weight);

@@ -12,14 +12,14 @@ pub struct TimedEdge {
     pub child: u16,
 }
 
-impl TimedEdge {
-    /// The edge.
-    pub fn edge(&self) -> Edge
-        ensures { result ≡ edge_of self.now }
-    {
+/// The edge whose weight is the time.
+impl From<TimedEdge> for Edge {
+    ghost from_gives = { λ x e. e ≡ edge_of x };
+
+    fn from(x: TimedEdge) -> Edge {
         Edge {
-            weight: Some(self.weight),
-            child: self.child,
+            weight: Some(x.weight),
+            child: x.child,
         }
     }
 }
@@ -57,6 +57,7 @@ pub fn split(op: Op, a: u64, b: u64) -> Weights
 }
 
 /// The result where one of the two is never throughout.
+// No method of `Op`: the crate of nodes knows nothing of what an operation does with charts.
 pub fn skip(op: Op, never: Edge, other: Edge) -> Edge
     ensures { result ≡ skipped op never other }
 {

@@ -1,26 +1,26 @@
 -- What making a node leaves. Assumes nothing.
-use Rattle.std.proofs.Common.{◌≡◌, ℕ, ◌+◌, ◌<◌, false, ◌⊎◌, List, map, length, get_or, drop, Some, Option, sym, ap, ◌∙◌, subst, inl, inr}
+use Rattle.std.proofs.Common.{◌≡◌, ℕ, ◌+◌, ◌<◌, false, ◌⊎◌, List, map, length, get_or, drop, Some, None, Option, sym, ap, ◌∙◌, subst, inl, inr}
 use Rattle.std.proofs.lemmas.List.{drop_more}
 use Rattle.table.specs.Tables.{slot, Kept}
-use Rattle.table.specs.Finds.{Crowded, Placed}
+use Rattle.table.specs.Finds.{Crowded, Placed, Interned}
 use Rattle.nodes.specs.declared.edge.Edge.{Edge}
 use Rattle.nodes.specs.declared.node.Node.{Node}
-use Rattle.model.specs.Charts.{Time, late}
+use Rattle.model.specs.Charts.{Time, Chart, late}
 use Rattle.model.specs.Lists.{some}
 use Rattle.model.specs.Scenes.{Shape}
 use Rattle.store.specs.Stores.{lowest, highest, chart, Fine, Proper}
 use Rattle.store.specs.Fillings.{Stuck}
-use Rattle.build.specs.Builds.{lower_by, wanted, NodeTable, Ready, Kids, Grows, together}
+use Rattle.build.specs.Builds.{lower_by, wanted, NodeTable, Ready, Kids, Makeable, Grows, Made, together}
 use Rattle.build.proofs.Makes.{make_stuck, store_more, grown_more, made_fine, made_chart, made_part, wanted_formed, wanted_timely}
 use Rattle.build.proofs.Steps.{grows_none}
 
-module _ (old new : List (Option Node)) (shape : Shape) (l : ℕ) (kids : List Edge) (ready : Ready old shape) (lt : l < length shape) (k : Kids old (get_or shape l 0) (drop (l + 1) shape) l kids) where
-  pub wanted_is : (low : Time) (edges : List Edge) (most : Time) → low ≡ lowest kids → edges ≡ map (lower_by low) kids → most ≡ highest old (drop (l + 1) shape) edges → ◌≡◌ {A = Node} (record { level = l; most = most; edges = edges }) (wanted old (drop (l + 1) shape) l kids)
-  wanted_is low edges most h e m =
-      let p = e ∙ ap (λ m. map (lower_by m) kids) h in
-      let q = m ∙ ap (highest old (drop (l + 1) shape)) p in
-      λ i. record { level = l; most = q i; edges = p i }
+pub wanted_is : (nodes : List (Option Node)) (ns : Shape) (l : ℕ) (kids : List Edge) (low : Time) (edges : List Edge) (most : Time) → low ≡ lowest kids → edges ≡ map (lower_by low) kids → most ≡ highest nodes ns edges → ◌≡◌ {A = Node} (record { level = l; most = most; edges = edges }) (wanted nodes ns l kids)
+wanted_is nodes ns l kids low edges most h e m =
+    let p = e ∙ ap (λ m. map (lower_by m) kids) h in
+    let q = m ∙ ap (highest nodes ns) p in
+    λ i. record { level = l; most = q i; edges = p i }
 
+module _ (old new : List (Option Node)) (shape : Shape) (l : ℕ) (kids : List Edge) (ready : Ready old shape) (lt : l < length shape) (k : Kids old (get_or shape l 0) (drop (l + 1) shape) l kids) where
   made_placed : NodeTable new → Kept old new → length new ≡ length old → (i : ℕ) → Placed old new (wanted old (drop (l + 1) shape) l kids) i → Grows old new shape l (together old shape l kids)
   made_placed table kept same i put =
       let n = get_or shape l 0 in
@@ -57,3 +57,36 @@ pub made_timely : (nodes : List (Option Node)) (shape : Shape) (l : ℕ) (kids :
 made_timely nodes shape l kids ready lt k t low edges h e =
     ap (λ es. late (highest nodes (drop (l + 1) shape) es)) (e ∙ ap (λ m. map (lower_by m) kids) h)
     ∙ wanted_timely nodes shape ready.store (get_or shape l 0) (drop (l + 1) shape) l (drop_more shape l 0 lt) kids (ready.few l) k t
+
+-- what is known of a node x, at a time of low, that is to be interned for some kids
+pub record Making (old : List (Option Node)) (shape : Shape) (l : ℕ) (kids : List Edge) (low : Time) (x : Node) : Type 0 where
+  pub ready : Ready old shape
+  pub able : Makeable old shape l kids
+  pub least : low ≡ lowest kids
+  pub wanted : x ≡ wanted old (drop (l + 1) shape) l kids
+
+module _ {old : List (Option Node)} {shape : Shape} {l : ℕ} {kids : List Edge} {low : Time} {x : Node} (m : Making old shape l kids low x) (new : List (Option Node)) where
+  abbrev whole : Chart
+  whole = together old shape l kids
+
+  abbrev node : Node
+  node = wanted old (drop (l + 1) shape) l kids
+
+  -- in its slot it is what the edge leads to
+  pub made_edge : NodeTable new → Kept old new → length new ≡ length old → (i : ℕ) → Interned (λ (y z : Node). y ≡ z) old new x (Some i) → Made old new shape l whole (Some (record { weight = low; child = i }))
+  made_edge table kept same i got =
+      let here : slot new i ≡ Some node = got.0.here ∙ ap {B = Option Node} Some (got.0.like ∙ m.wanted) in
+      let how : (new ≡ old) ⊎ Placed old new node i = subst (λ y. (new ≡ old) ⊎ Placed old new y i) m.wanted got.1 in
+      record {
+        grows = made_grows old new shape l kids m.ready m.able.depth m.able.kids table kept same i how;
+        built = made_answers old new shape l kids m.ready m.able.depth m.able.kids kept i here _ (let h = sym m.least in λ j. record { weight = h j; child = i });
+      }
+
+  -- without a slot nothing has changed
+  pub made_none : Interned (λ (y z : Node). y ≡ z) old new x None → Made old new shape l whole None
+  made_none got =
+      let full = make_full old shape l kids m.ready m.able.depth m.able.kids (subst (Crowded (λ (y z : Node). y ≡ z) old) m.wanted got.1) in
+      record {
+        grows = subst (λ (n : List (Option Node)). Grows old n shape l whole) (sym got.0) (grows_none old shape l whole m.ready);
+        built = subst (λ (n : List (Option Node)). Stuck n shape l whole) (sym got.0) full;
+      }

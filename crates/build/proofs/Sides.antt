@@ -18,7 +18,7 @@ use Rattle.parts.proofs.Pieces.{map_each, pieces_each, all_in, least_later}
 use Rattle.store.specs.Stores.{none_edge, node_at, chart, body, Leads, Fine, Formed, Store}
 use Rattle.store.proofs.Canon.{led, kids_of, knows, knows_kids, kids_long}
 use Rattle.store.proofs.Greatest.{plus_zero}
-use Rattle.build.specs.Builds.{raised, piece, Stands}
+use Rattle.build.specs.Builds.{raised, piece, Legal, Stands}
 use Rattle.build.proofs.Weights.{later_later}
 use Rattle.build.proofs.Makes.{late_less}
 use Rattle.build.proofs.Steps.{get_or_in}
@@ -152,8 +152,15 @@ module _ (nodes : List (Option Node)) (shape : Shape) (store : Store nodes shape
         ∙ raised_chart nodes ns (Some w) (get_or es k none_edge)
         ∙ ap (λ e. chart nodes ns (raised (Some w) e)) (get_or-take n x.edges k none_edge kl)
 
-    pub side_kid_timely : some late (chart nodes (drop l shape) a) ≡ false → some late (chart nodes (drop (l + 1) shape) (raised (Some w) (get_or x.edges k none_edge))) ≡ false
+    side_kid_timely : some late (chart nodes (drop l shape) a) ≡ false → some late (chart nodes (drop (l + 1) shape) (raised (Some w) (get_or x.edges k none_edge))) ≡ false
     side_kid_timely h = ap (some late) (sym side_piece) ∙ piece_timely shape l (later (Some w) (body nodes (drop l shape) x)) k (ap (some late) (sym side_chart) ∙ h)
+
+    -- the edge for a setting, raised: its chart, and that it is legal
+    pub side_kid : piece shape l (chart nodes (drop l shape) a) k ≡ chart nodes (drop (l + 1) shape) (raised (Some w) (get_or x.edges k none_edge))
+    side_kid = ap (λ c. piece shape l c k) side_chart ∙ side_piece
+
+    pub side_legal : some late (chart nodes (drop l shape) a) ≡ false → Legal nodes shape (l + 1) (raised (Some w) (get_or x.edges k none_edge))
+    side_legal h = record { fine = side_fine; timely = side_kid_timely h }
 
     pub side_timely : some late (chart nodes (drop l shape) a) ≡ false → late (plus (Some w) (get_or x.edges k none_edge).weight) ≡ false
     side_timely h = weight_timely nodes shape store (l + 1) (raised (Some w) (get_or x.edges k none_edge)) side_fine (side_kid_timely h)

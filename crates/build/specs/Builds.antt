@@ -76,11 +76,15 @@ pub record Makeable (nodes : List (Option Node)) (shape : Shape) (l : ℕ) (edge
   pub kids : Kids nodes (slice_index shape l) (drop (l + 1) shape) l edges
   pub timely : some late (together nodes shape l edges) ≡ false
 
--- an edge may be spread: the level has a device, the edge is fine below it, and no time of its is late
+-- an edge of a level is legal: it is fine there, and no time of its chart is late
+pub record Legal (nodes : List (Option Node)) (shape : Shape) (l : ℕ) (e : Edge) : Type 0 where
+  pub fine : Fine nodes (drop l shape) l e
+  pub timely : some late (chart nodes (drop l shape) e) ≡ false
+
+-- an edge may be spread: the level has a device, and the edge is legal below it
 pub record Spreadable (nodes : List (Option Node)) (shape : Shape) (l : ℕ) (kid : Edge) : Type 0 where
   pub depth : l < length shape
-  pub fine : Fine nodes (drop (l + 1) shape) (l + 1) kid
-  pub timely : some late (chart nodes (drop (l + 1) shape) kid) ≡ false
+  pub legal : Legal nodes shape (l + 1) kid
 
 -- the store has grown by parts of the chart only, and the answer is an edge with it, or there was no room
 pub record Made (old new : List (Option Node)) (shape : Shape) (l : ℕ) (c : Chart) (e : Option Edge) : Type 0 where

@@ -5,6 +5,7 @@ ghost use Rattle.build.specs.Builds.{lower_by};
 use nodes::edge::Edge;
 
 /// The least weight.
+// Of edges alone, as all here, and no method of `NodeStore`: no node of a store has these edges yet.
 pub fn least(edges: &[Edge]) -> Option<u64>
     ensures { result ≡ lowest edges.now }
 {

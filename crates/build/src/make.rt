@@ -7,6 +7,7 @@ use nodes::node::Node;
 use table::slots::intern;
 
 /// The edge to the normalised node with these edges, which is interned; none where no slot is free for it.
+// Of lent slices, and no method of `NodeStore`: what the store's type says is shown again only once the node is in its slot.
 pub fn make(
     nodes: &mut [Option<Node>],
     settings: &[u8],

@@ -7,6 +7,7 @@ use lists::short::Short;
 use nodes::node::Node;
 
 /// The nodes of diagrams over one shape, in a fixed number of slots: no node twice, each normalised.
+// Settings, and not the `Shape` of shelves: a store asks less of the counts. So `devices` and `count` are its own.
 #[derive(Drop)]
 pub struct NodeStore {
     settings: Short<u8, MOST_DEVICES>,

@@ -16,6 +16,7 @@ const NO_NODE: Node = Node {
 };
 
 /// The node in a slot; a free slot stands for a node without times.
+// Of a slice, as the next three: `make` asks while the store has lent its slots, the collector where it has slots alone.
 pub fn node_at(nodes: &[Option<Node>], i: u16) -> Node
     ensures { result ≡ stores.node_at nodes.now i }
 {

@@ -60,6 +60,16 @@ pub record Side (source : List (Option Node)) (shape : Shape) (l : ℕ) (e : Edg
 pub side_at : {source : List (Option Node)} {shape : Shape} (l : ℕ) (e : Edge) → Store source shape → l < length shape → Fine source (drop l shape) l e → Side source shape l e
 side_at l e store lt fine = record { store = store; lt = lt; fine = fine }
 
+-- such an edge, the node that it leads to, and that none of its times is late
+pub record Turn (source : List (Option Node)) (shape : Shape) (l : ℕ) (e : Edge) (x : Node) : Type 0 where
+  pub side : Side source shape l e
+  pub node : x ≡ node_at source e.child
+  pub timely : late (below source (drop l shape) e) ≡ false
+
+-- in the same slots later
+pub turn_at : {now source : List (Option Node)} {shape : Shape} {x : Node} (l : ℕ) (e : Edge) → now ≡ source → Store source shape → l < length shape → Fine source (drop l shape) l e → x ≡ node_at source e.child → late (below source (drop l shape) e) ≡ false → Turn now shape l e x
+turn_at {now} {source} {shape} {x} l e same store lt fine node timely = subst (λ s. Turn s shape l e x) (sym same) (record { side = side_at l e store lt fine; node = node; timely = timely })
+
 -- what stands at a setting of the device
 pub record Item (source : List (Option Node)) (shape : Shape) (l : ℕ) (e : Edge) (i : ℕ) (kid : Edge) : Type 0 where
   pub below : i < get_or shape l 0
@@ -216,13 +226,11 @@ module _ {source : List (Option Node)} {first mid : NodeStore} {moved : List (Op
     -- what its copy asks, over a shape
     pub record Next (shape : Shape) : Type 0 where
       pub depth : l + 1 ≤ length shape
-      pub store : Store source shape
-      pub noted : Moved source (nodes_in mid) shape moved
       pub fine : Fine source (drop (l + 1) shape) (l + 1) kid
       pub timely : late (below source (drop (l + 1) shape) kid) ≡ false
 
     pub next_kid : late (below source (drop l (shape_in first)) e) ≡ false → Next (shape_in mid)
-    next_kid h = subst Next (sym f.begun.same) (record { depth = omega (arith, side.lt); store = side.store; noted = f.noted; fine = kid_fine side item; timely = kid_timely side item h })
+    next_kid h = subst Next (sym f.begun.same) (record { depth = omega (arith, side.lt); fine = kid_fine side item; timely = kid_timely side item h })
 
     abbrev part : Chart
     part = chart source (drop (l + 1) (shape_in mid)) kid
@@ -237,7 +245,7 @@ module _ {source : List (Option Node)} {first mid : NodeStore} {moved : List (Op
       pub filled_stuck : Stuck (nodes_in new) (shape_in mid) (l + 1) part → Stuck (nodes_in new) (shape_in first) l whole
       filled_stuck s = whole_stuck new (stuck_next first mid new l inner i kids side.lt f.begun part item.below part_is g s)
 
-      pub filled_moved : (after : List (Option ℕ)) → Moved source (nodes_in new) (shape_in mid) after → Moved source (nodes_in new) (shape_in first) after
+      filled_moved : (after : List (Option ℕ)) → Moved source (nodes_in new) (shape_in mid) after → Moved source (nodes_in new) (shape_in first) after
       filled_moved after m = subst (λ s. Moved source (nodes_in new) s after) f.begun.same m
 
       pub filled_more : (after : List (Option ℕ)) (d : Edge) → Stands (nodes_in new) (shape_in mid) (l + 1) part d → Moved source (nodes_in new) (shape_in mid) after → Filled source first new after l e (i + 1) (set kids i d)

@@ -1,2 +1,3 @@
--- the steps of copying: Copying
+-- the steps of copying: Copying; what a collector keeps: Lasting
 pub mod Copying
+pub mod Lasting

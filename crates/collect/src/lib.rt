@@ -1,5 +1,5 @@
 //! The copying collector: what some edges reach, in another store.
 #![tactic(auto)]
 
-pub mod copy;
+pub mod collector;
 pub mod moved;

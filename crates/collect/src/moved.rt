@@ -2,6 +2,7 @@ ghost use Rattle.table.specs.Tables.{Empty};
 ghost use Rattle.collect.specs.Copies.{Noted};
 
 /// Notes to which slot the node in a slot was copied.
+// Not shared with `Short::set`: its contract says which notes stand afterwards, and that of `set` what the list is.
 pub fn note(moved: &mut [Option<u16>], i: u16, to: u16)
     ensures { Noted moved.old moved.new i to }
 {
@@ -13,6 +14,7 @@ pub fn note(moved: &mut [Option<u16>], i: u16, to: u16)
 }
 
 /// Forgets every copy.
+// Not `table::slots::clear`: that is for entries with keys, and a note has none.
 pub fn forget(moved: &mut [Option<u16>])
     ensures { Empty moved.new }
 {

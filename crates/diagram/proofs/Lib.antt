@@ -1,6 +1,6 @@
--- what hanging leaves: Hanging; what a call answers: Calling; what the pegs carry: Pegs
+-- what hanging leaves: Hanging; what the pegs carry: Pegs; what a call that hangs answers, and each call: Calling, Calls; opening: Opening
 pub mod Hanging
-pub mod Calling
 pub mod Pegs
+pub mod Calling
 pub mod Calls
 pub mod Opening

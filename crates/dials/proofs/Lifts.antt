@@ -10,7 +10,7 @@ use Rattle.model.specs.Scenes.{Shape, size}
 use Rattle.store.specs.Stores.{chart, Fine}
 use Rattle.store.specs.Fillings.{Stuck}
 use Rattle.build.specs.declared.node_store.NodeStore.{NodeStore}
-use Rattle.build.specs.Builds.{Spreadable, Built, Stands, spread_chart}
+use Rattle.build.specs.Builds.{Legal, Spreadable, Built, Stands, spread_chart}
 use Rattle.build.specs.Grew.{nodes_in, shape_in, Grew}
 use Rattle.build.proofs.Steps.{piece_parts, stuck_wider}
 use Rattle.build.proofs.Spreads.{piece_at, made_long, some_joined}
@@ -39,8 +39,7 @@ module _ {old mid : NodeStore} {l : ℕ} {c d : Chart} (s : Turn old mid l c d) 
     pub turn_spreadable : Spreadable (nodes_in mid) (shape_in mid) l kid
     turn_spreadable = record {
       depth = subst (λ t. l < length t) (sym s.grew.same) s.depth;
-      fine = subst (λ t. Fine (nodes_in mid) (drop (l + 1) t) (l + 1) kid) (sym s.grew.same) st.0;
-      timely = ap (λ t. some late (chart (nodes_in mid) (drop (l + 1) t) kid)) s.grew.same ∙ ap (some late) st.1 ∙ s.timely;
+      legal = subst (λ t. Legal (nodes_in mid) t (l + 1) kid) (sym s.grew.same) (record { fine = st.0; timely = ap (some late) st.1 ∙ s.timely });
     }
 
     pub turn_grew : (new : NodeStore) → Grew mid new l (spread_chart (shape_in mid) l (chart (nodes_in mid) (drop (l + 1) (shape_in mid)) kid)) → Grew old new l d
@@ -118,11 +117,11 @@ module _ {old mid : NodeStore} {l v : ℕ} {c d : Chart} (s : Lift old mid l v c
     there_is : lifted (shape_in mid) l (v - l) here ≡ d
     there_is = (λ j. lifted (s.grew.same j) l (v - l) (here_is j)) ∙ s.is
 
-    pub lift_fine : Fine (nodes_in mid) (drop v (shape_in mid)) v e
-    lift_fine = subst (λ t. Fine (nodes_in mid) (drop v t) v e) (sym s.grew.same) st.0
-
-    pub lift_timely : some late here ≡ false
-    lift_timely = ap (some late) here_is ∙ s.timely
+    pub lift_legal : Legal (nodes_in mid) (shape_in mid) v e
+    lift_legal = record {
+      fine = subst (λ t. Fine (nodes_in mid) (drop v t) v e) (sym s.grew.same) st.0;
+      timely = ap (some late) here_is ∙ s.timely;
+    }
 
     pub lift_grew : (new : NodeStore) → Grew mid new l (lifted (shape_in mid) l (v - l) here) → Grew old new l d
     lift_grew new g = grew_then old mid new l l d d (λ p i. i) lift_early (subst (Grew mid new l) there_is g)

@@ -4,7 +4,8 @@
 ghost use Rattle.std.specs.Prelude.{◌≡◌, ◌-◌, ◌<◌, ◌≤◌, false, length, take, drop, slice_index};
 ghost use Rattle.model.specs.Charts.{dialled, late};
 ghost use Rattle.model.specs.Lists.{some};
-ghost use Rattle.store.specs.Stores.{chart, Fine};
+ghost use Rattle.store.specs.Stores.{chart};
+ghost use Rattle.build.specs.Builds.{Legal};
 ghost use Rattle.build.specs.Grew.{nodes_in, shape_in, MadeIn};
 ghost use Rattle.dials.specs.Flats.{flat, lifted};
 
@@ -13,11 +14,12 @@ use nodes::edge::{Edge, NEVER};
 
 /// The edge of a level whose chart gives a scene what the chart of `e`, an edge of the level `from`, gives it, or none
 /// where no slot is free for a part of it.
+// That a level is in the shape is asked, here and wherever one is handed in: no type says that a number is below the
+// length of another value.
 fn lift(store: &mut NodeStore, level: usize, from: usize, e: Edge) -> Option<Edge>
     requires above { level ≤ from }
     requires depth { from ≤ length (shape_in store.old) }
-    requires fine { Fine (nodes_in store.old) (drop from (shape_in store.old)) from e }
-    requires timely { some late (chart (nodes_in store.old) (drop from (shape_in store.old)) e) ≡ false }
+    requires legal { Legal (nodes_in store.old) (shape_in store.old) from e }
     ensures { MadeIn store.old store.new level (lifted (shape_in store.old) level (from - level) (chart (nodes_in store.old) (drop from (shape_in store.old)) e)) result }
 {
     if level == from {
@@ -49,6 +51,7 @@ fn fan(store: &mut NodeStore, level: usize, entries: &[Option<u64>; 8]) -> Optio
     ensures { MadeIn store.old store.new level (dialled (drop level (shape_in store.old)) 0 entries.now) result }
 {
     let count = store.count(level);
+    // By a loop: `array::try_from_fn` says nothing of the store that its calls leave.
     let mut kids = [NEVER; 8];
     for (i, entry) in entries[..count].iter().enumerate() {
         kids[i] = constant(store, level + 1, *entry)?;

@@ -104,11 +104,9 @@ fn some_free(charges: &[Charge]) -> bool
 fn sum_of(base: u16, charges: &[Charge]) -> u32
     ensures { result ≡ min (base + total extra (charges_of charges.now)) (2 ^ 32 - 1) }
 {
-    let mut sum = u32::from(base);
-    for charge in charges {
-        sum = sum.saturating_add(u32::from(charge.extra));
-    }
-    sum
+    charges.iter().fold(u32::from(base), |sum, charge| {
+        sum.saturating_add(u32::from(charge.extra))
+    })
 }
 
 /// Whether the base or an extra is 0, or all together are above the limit.

@@ -18,7 +18,7 @@ use Rattle.flat.specs.Rows.{row, flat}
 use Rattle.flat.specs.declared.store.FlatShelf.{FlatShelf}
 use Rattle.flat.specs.declared.store.numbers.Peg.{Peg}
 use Rattle.flat.specs.Means.{means, row_of, hanging}
-use Rattle.flat.specs.Numbers.{Hangs, NoCharts}
+use Rattle.flat.specs.Numbers.{Names, Hangs, NoCharts}
 use Rattle.flat.specs.Hanging.{bare_at, row_on, sound_of}
 
 pub low_peg : (p : ℕ) → p < 8 → high p ≡ false
@@ -147,13 +147,13 @@ module _ (ns : Shape) (cells : List Time) (hung : List Bool) where
             put_checks : AllByRecursion (λ k. k.holds ≡ false) (call_checks m (put t a v d))
             put_checks = (lt-leb (length ns) v device, (setting_low, (low_pegs t a ht ha, (bare_at ns cells hung a ha true ea, (refl, tt)))))
 
-            pub put_does : does m (put t a v d) ≡ Ok tt
+            put_does : does m (put t a v d) ≡ Ok tt
             put_does = accepts (call_checks m (put t a v d)) tt put_checks
 
-            pub put_done : (n : Meaning) → n ≡ hanging m t (put_chart ns v d (row cells (size ns) a)) → n ≡ done m (put t a v d)
+            put_done : (n : Meaning) → n ≡ hanging m t (put_chart ns v d (row cells (size ns) a)) → n ≡ done m (put t a v d)
             put_done n e = e ∙ ap (hanging m t) (sym put_rows) ∙ sym (call_accepted m (put t a v d) put_does)
 
-            pub put_legal : Sound m → some late (put_chart ns v d (row cells (size ns) a)) ≡ false
+            put_legal : Sound m → some late (put_chart ns v d (row cells (size ns) a)) ≡ false
             put_legal s = ap (some late) (sym put_rows) ∙ hung_legal m s (put t a v d) put_checks
 
   -- A read
@@ -208,3 +208,18 @@ module _ (s : FlatShelf) (t l r : ℕ) (target left right : Peg) (named : target
     sum_joined e n h =
         joined sum n (sum_does (shape_of s.shape) (vec_items s.cells) s.hung _ _ left.low right.low _ target.low hang.0.1 hang.1.1 b told e)
         (sum_done (shape_of s.shape) (vec_items s.cells) s.hung _ _ left.low right.low _ target.low hang.0.1 hang.1.1 b told e n h)
+
+-- a chart that hangs on the source, put at a setting of a device and hung on the target
+module _ (s : FlatShelf) (t a v d : ℕ) (target source : Peg) (device setting count : ℕ) (named : target.number ≡ t) (hang : Hangs s.hung a source.number) (there : Names (length (shape_of s.shape)) v device) (chosen : setting ≡ d) (below : setting < count) (many : count ≡ get_or (shape_of s.shape) device 0) where
+  low : setting < get_or (shape_of s.shape) device 0
+  low = omega (arith, below, many)
+
+  pub put_timely : some late (put_chart (shape_of s.shape) device setting (row_of s source.number)) ≡ false
+  put_timely = put_legal (shape_of s.shape) (vec_items s.cells) s.hung _ _ _ _ there.1 low target.low source.low hang.1 (sound_of s)
+
+  pub put_there : (n : Meaning) → n ≡ hanging (means s) target.number (put_chart (shape_of s.shape) device setting (row_of s source.number)) → Answered (means s) (put t a v d) (Ok tt) n
+  put_there n h =
+      rw (sym named, sym hang.0, sym there.0, sym chosen) (record {
+        answer = sym (put_does (shape_of s.shape) (vec_items s.cells) s.hung _ _ _ _ there.1 low target.low source.low hang.1);
+        left = put_done (shape_of s.shape) (vec_items s.cells) s.hung _ _ _ _ there.1 low target.low source.low hang.1 n h;
+      })

@@ -96,6 +96,7 @@ impl Reader<'_> {
     fn surcharges(&mut self, count: u8) -> Option<()>
         ensures { Passes (λ xs. length xs ≡ count) (flat_map surcharge_bytes) result self.old.rest.now self.new.rest.now }
     {
+        // A loop: `try_for_each(|_| self.surcharge())` was tried; after it a proof knows nothing of what the closure left.
         for _ in 0..count {
             self.surcharge()?;
         }
@@ -117,6 +118,7 @@ impl Reader<'_> {
     pub fn entries(&mut self, count: u8) -> Option<()>
         ensures { Passes (Moves count) (flat_map entry_bytes) result self.old.rest.now self.new.rest.now }
     {
+        // A loop: `try_fold` with the last number was tried; after it a proof knows nothing of what the closure left.
         let mut last = None;
         for _ in 0..count {
             let number = self.entry()?;

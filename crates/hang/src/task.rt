@@ -1,6 +1,7 @@
 use nodes::remembered::Op;
 
 /// What is to be hung: a dial of a device, two pegs joined, or a peg once a device is at a setting.
+// Not the `Hanging` of the steps: that is a call on any shelf, target and all, in a crate that knows no diagrams.
 #[derive(Clone, Copy)]
 pub enum Task {
     Dial {

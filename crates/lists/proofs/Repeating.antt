@@ -3,7 +3,7 @@ use Rattle.std.proofs.Common.{◌≡◌, ℕ, zero, suc, ◌<◌, ◌≤◌, tak
 use Rattle.std.proofs.lemmas.List.{get_or_default, get_or-take, length-take-le}
 use Rattle.std.proofs.lemmas.Bool.{false≢true, or_right, false_from_ne_true}
 use Rattle.model.specs.Lists.{some, repeats}
-use Rattle.model.proofs.Tests.{absurd, some_at, some_found}
+use Rattle.model.proofs.Tests.{some_at, some_found}
 use Rattle.lists.specs.Repeats.{Alike, New, Apart, Repeated, has_stood}
 
 module _ {X : Type 0} (same : X → X → Bool) where

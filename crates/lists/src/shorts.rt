@@ -1,6 +1,7 @@
 ghost use Rattle.std.specs.Prelude.{◌≡◌, ℕ, ◌<◌, ◌≤◌, [], ◌∷◌, ◌++◌, length, if◌then◌else◌, is_some, MatchOption, nat_lt, slice_set};
 ghost use Rattle.lists.specs.Shorts.{listed};
 
+use crate::places::set_in;
 use crate::short::Short;
 
 // Lengths are compared, and not left to `get_mut`: no proof knows what an array holds after a write through that.
@@ -40,9 +41,7 @@ impl<T: Copy, const N: usize> Short<T, N> {
     pub fn set(&mut self, place: usize, item: T)
         ensures { listed self.new ≡ slice_set (listed self.old) place item }
     {
-        if place < self.len {
-            self.items[place] = item;
-        }
+        set_in(&mut self.items[..self.len], place, item);
     }
 
     /// One more item, or nothing where there are `N` already.

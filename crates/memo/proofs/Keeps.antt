@@ -1,8 +1,6 @@
 -- What is remembered stays right as the store grows, and as one result is added. Assumes nothing.
-use Rattle.std.proofs.Common.{◌≡◌, ℕ, ◌⊎◌, List, drop, Some, None, Option, sym, refl, ap, ◌∙◌, subst, inl, inr}
-use Rattle.std.proofs.lemmas.Bool.{cases_eq}
-use Rattle.table.specs.Tables.{slot, Table, Kept}
-use Rattle.table.specs.Finds.{Interned, Placed}
+use Rattle.std.proofs.Common.{◌≡◌, ℕ, List, drop, Option, sym, refl, ◌∙◌, subst, inl, inr}
+use Rattle.table.specs.Tables.{Table, Kept}
 use Rattle.nodes.specs.Keys.{SameKey, initial_of}
 use Rattle.nodes.specs.declared.edge.Edge.{Edge}
 use Rattle.nodes.specs.declared.node.Node.{Node}
@@ -15,19 +13,7 @@ use Rattle.store.proofs.Grows.{fine_kept, chart_kept}
 use Rattle.build.specs.Grew.{nodes_in, shape_in, Grew}
 use Rattle.build.specs.declared.node_store.NodeStore.{NodeStore}
 use Rattle.memo.specs.Operations.{result_chart}
-use Rattle.memo.specs.Results.{Recalled, Added, Right, Knows}
-
--- interning adds the entry or nothing
-pub added_by : (old new : List (Option Remembered)) (x : Remembered) (r : Option ℕ) → Interned SameKey old new x r → Added old new x
-added_by old new x None h k y p = inl (ap (λ (t : List (Option Remembered)). slot t k) (sym h.0) ∙ p)
-added_by old new x (Some i) h k y p = go h.1
-  where
-    go : (new ≡ old) ⊎ Placed old new x i → (slot old k ≡ Some y) ⊎ (y ≡ x)
-    go (inl e) = inl (ap (λ (t : List (Option Remembered)). slot t k) (sym e) ∙ p)
-    go (inr put) = elim (cases_eq k i) [
-      | inl e ↦ inr (let q : slot new k ≡ Some x = ap (slot new) e ∙ put.here in let z : y ≡ x = cc in z)
-      | inr n ↦ inl (sym (put.others k n) ∙ p)
-    ]
+use Rattle.memo.specs.Results.{Added, Right, Knows}
 
 module _ (old new : List (Option Node)) (kept : Kept old new) (shape : Shape) (store : Store old shape) where
   pub right_kept : (key : Key) (result : Edge) → Right old shape key result → Right new shape key result
@@ -51,13 +37,6 @@ knows_added nodes shape before after x k table added r = record {
   table = table;
   all = λ i y h. elim (added i y h) [ inl p ↦ k.all i y p | inr p ↦ subst (λ (z : Remembered). Right nodes shape z.key z.result) (sym p) r ];
 }
-
--- what is recalled for a key
-pub recalled_right : (nodes : List (Option Node)) (shape : Shape) (memo : List (Option Remembered)) (key : Key) (e : Edge) → Knows nodes shape memo → Recalled memo key e → Right nodes shape key e
-recalled_right nodes shape memo key e k r =
-    let p = r.like in
-    let q = sym r.is in
-    coe 0 1 (i. Right nodes shape (p i) (q i)) (k.all r.place r.entry r.here)
 
 -- what is known of a store is known once it has grown
 pub knows_grew : (old new : NodeStore) (l : ℕ) (c : Chart) (memo : List (Option Remembered)) → Knows (nodes_in old) (shape_in old) memo → Grew old new l c → Knows (nodes_in new) (shape_in new) memo

@@ -8,6 +8,7 @@ use nodes::remembered::{Key, Remembered};
 use table::found::Found;
 use table::slots::{clear, find, intern};
 
+// The work is on slices, which the methods of `Diagrams` lend. Clauses say that a slice is a table: no type says it of a lent one.
 /// The result that is remembered for the key, if there is one.
 pub fn recall(memo: &[Option<Remembered>], key: &Key) -> Option<Edge>
     requires { Table SameKey initial_of memo.now }

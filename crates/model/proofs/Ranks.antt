@@ -1,7 +1,7 @@
 -- Scenes, their order and their places. Assumes nothing.
 use Rattle.std.proofs.Common.{◌≡◌, ℕ, zero, suc, ◌+◌, ◌*◌, ◌%◌, ◌<◌, ◌≤◌, false, not, eqb, leb, List, [], ◌∷◌, map, length, get_or, drop, set, None, sym, refl, ap, ◌∙◌, mul-le-mul_right, mod-lt, div-lt_iff_lt-mul, arith}
 use Rattle.std.specs.List.{range_with_len, flat_map, AllByRecursion}
-use Rattle.std.proofs.lemmas.List.{length-append, length-map, get_or_append_left, get_or-append-add, get_or-map, drop_more, ext_get_or}
+use Rattle.std.proofs.lemmas.List.{length-append, length-map, get_or_append_left, get_or-append-add, get_or-map, ext_get_or}
 use Rattle.std.proofs.ByRecursion.{All-append, All-map, All-weaker}
 use Rattle.std.proofs.lemmas.Bool.{leb-false, lt-leb, eqb-true, not-false, or_parts, or_from}
 use Rattle.model.specs.Lists.{some_two}
@@ -171,9 +171,3 @@ scene_drop (suc i) [] [] h = tt
 scene_drop (suc i) [] (x ∷ xs) h = absurd h
 scene_drop (suc i) (n ∷ ns) [] h = absurd h
 scene_drop (suc i) (n ∷ ns) (x ∷ xs) h = scene_drop i ns xs h.1
-
--- one turn of the loop r = r * n + x
-pub rank_more : (i : ℕ) (ns : Shape) (s : Scene) (r : ℕ) → i < length ns → i < length s →
-    r * size (drop i ns) + rank (drop i ns) (drop i s) ≡ (r * get_or ns i 0 + get_or s i 0) * size (drop (i + 1) ns) + rank (drop (i + 1) ns) (drop (i + 1) s)
-rank_more i ns s r h k =
-    (λ j. r * size (drop_more ns i 0 h j) + rank (drop_more ns i 0 h j) (drop_more s i 0 k j)) ∙ omega arith

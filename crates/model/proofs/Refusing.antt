@@ -1,14 +1,11 @@
 -- What a call answers and leaves, by its checks. Assumes nothing.
-use Rattle.std.proofs.Common.{◌≡◌, ℕ, Bool, true, false, cond, List, [], ◌∷◌, ◌++◌, Ok, Err, Result, refl, ◌∙◌, arith}
+use Rattle.std.proofs.Common.{◌≡◌, ℕ, Bool, true, false, cond, List, [], ◌∷◌, ◌++◌, Ok, Err, Result, refl, ◌∙◌}
 use Rattle.std.specs.List.{AllByRecursion}
 use Rattle.std.proofs.lemmas.Bool.{cond-true, cond-false}
 use Rattle.model.specs.Refusals.{Check, refuse, answer, left_by}
 
-ok_not_err : {T : Type 0} {x : T} {n : ℕ} → Err n ≡ Ok x → ⊥
-ok_not_err e = let z : ◌≡◌ {A = ℕ} 0 1 = cc in omega arith
-
 passed : {T : Type 0} (b : Bool) (n : ℕ) (r : Result T ℕ) (y : T) → cond b (Err n) r ≡ Ok y → (b ≡ false) × (r ≡ Ok y)
-passed true n r y e = absurd (ok_not_err e)
+passed true n r y e = (cc, cc)
 passed false n r y e = (refl, e)
 
 -- what is accepted passes each check

@@ -1,13 +1,13 @@
 -- How many scenes a shape has, device by device. Assumes nothing.
-use Rattle.std.proofs.Common.{◌≡◌, ℕ, zero, suc, ◌+◌, ◌*◌, ◌^◌, ◌<◌, ◌≤◌, Bool, false, ltb, [], ◌∷◌, ◌++◌, length, get_or, take, drop, sym, ap, ◌∙◌, mul_assoc, add-mul, one-mul, pow-suc, mul-one, add-one, arith, lit<}
+use Rattle.std.proofs.Common.{◌≡◌, ℕ, zero, suc, ◌+◌, ◌*◌, ◌^◌, ◌<◌, ◌≤◌, Bool, false, ltb, [], ◌∷◌, ◌++◌, length, get_or, take, drop, sym, ap, ◌∙◌, mul_assoc, add-mul, one-mul, pow-suc, add-one, arith, lit<}
 use native.Mathlib.Nat.{pow-le-pow_right}
 use Rattle.std.proofs.lemmas.Nat.{mul-le}
-use Rattle.std.proofs.lemmas.List.{take_more, length-take, length-drop, length-take-le}
+use Rattle.std.proofs.lemmas.List.{length-take, length-drop}
 use Rattle.std.proofs.lemmas.Bool.{or_parts, ltb-false}
 use Rattle.model.specs.Limits.{outside, most_devices, least_settings, most_settings}
 use Rattle.model.specs.Lists.{some}
 use Rattle.model.specs.Scenes.{Shape, size, shape_off}
-use Rattle.model.proofs.Testing.{none_take, none_drop, none_at}
+use Rattle.model.proofs.Testing.{none_take, none_drop}
 
 -- Legal counts
 
@@ -37,10 +37,6 @@ legal_drop i ns h =
     let p = legal_parts ns h in
     (omega (arith, length-drop i ns, p.1), none_drop count_off i ns p.2)
 
--- a device has two to eight settings
-pub setting_count : (ns : Shape) (v : ℕ) → some count_off ns ≡ false → v < length ns → (2 ≤ get_or ns v 0) × (get_or ns v 0 ≤ 8)
-setting_count ns v h l = legal_count (get_or ns v 0) (none_at count_off v ns 0 l h)
-
 -- Sizes
 
 pub size_some : (ns : Shape) → some count_off ns ≡ false → 1 ≤ size ns
@@ -64,10 +60,6 @@ pub size_append : (ns ms : Shape) → size (ns ++ ms) ≡ size ns * size ms
 size_append [] ms = sym (one-mul (size ms))
 size_append (n ∷ ns) ms = ap (λ x. n * x) (size_append ns ms) ∙ sym (mul_assoc n (size ns) (size ms))
 
-pub size_more : (ns : Shape) (i : ℕ) → i < length ns → size (take (i + 1) ns) ≡ size (take i ns) * get_or ns i 0
-size_more ns i h =
-    ap size (take_more ns i 0 h) ∙ size_append (take i ns) (get_or ns i 0 ∷ []) ∙ ap (λ x. size (take i ns) * x) (mul-one (get_or ns i 0))
-
 -- the devices before one, that one, and those after it
 pub size_split : (ns : Shape) (v : ℕ) → v < length ns → size ns ≡ size (take v ns) * (get_or ns v 0 * size (drop (v + 1) ns))
 size_split [] v h = absurd (omega arith)
@@ -77,11 +69,6 @@ size_split (n ∷ ns) (suc v) h =
     let deeper : size (drop (v + 1) ns) ≡ size (drop (suc v + 1) (n ∷ ns)) = ap (λ k. size (drop k (n ∷ ns))) next in
     ap (λ x. n * x) (size_split ns v (omega arith)) ∙ sym (mul_assoc n (size (take v ns)) (get_or ns v 0 * size (drop (v + 1) ns)))
     ∙ ap (λ k. (n * size (take v ns)) * (get_or ns v 0 * k)) deeper
-
--- the devices up to one have no more scenes than all may have
-pub size_take_most : (ns : Shape) (i : ℕ) → some count_off ns ≡ false → length ns ≤ 12 → i ≤ length ns → size (take i ns) ≤ 8 ^ 12
-size_take_most ns i h l k =
-    size_most (take i ns) (none_take count_off i ns h) (omega (arith, length-take-le i ns k))
 
 -- a digit more below its base
 pub digit_more : (p x n t : ℕ) → p < t → x < n → p * n + x < t * n

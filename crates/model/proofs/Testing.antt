@@ -1,8 +1,7 @@
 -- Tests that pass nowhere, and the turn of a loop that tests each pair of two lists. Assumes nothing.
-use Rattle.std.proofs.Common.{◌≡◌, ℕ, zero, suc, ◌+◌, ◌<◌, Bool, false, List, [], ◌∷◌, length, get_or, take, drop, sym, refl, ◌∙◌, arith}
+use Rattle.std.proofs.Common.{◌≡◌, ℕ, zero, suc, ◌<◌, Bool, false, List, [], ◌∷◌, length, get_or, take, drop, refl, arith}
 use Rattle.std.proofs.lemmas.Bool.{or_parts, or_from}
-use Rattle.model.specs.Lists.{some, some_two}
-use Rattle.model.proofs.Tests.{some_two_more}
+use Rattle.model.specs.Lists.{some}
 
 module _ {X : Type 0} (t : X → Bool) where
   -- a test that passes nowhere
@@ -22,8 +21,3 @@ module _ {X : Type 0} (t : X → Bool) where
   none_at i [] d l h = absurd (omega arith)
   none_at zero (x ∷ xs) d l h = (or_parts (t x) (some t xs) h).0
   none_at (suc i) (x ∷ xs) d l h = none_at i xs d (omega arith) (or_parts (t x) (some t xs) h).1
-
--- what is left passes as all does
-module _ {X Y : Type 0} (t : X → Y → Bool) (xs : List X) (ys : List Y) (i : ℕ) (left : some_two t (drop i xs) (drop i ys) ≡ some_two t xs ys) where
-  pub some_two_on : (d : X) (e : Y) → i < length xs → i < length ys → t (get_or xs i d) (get_or ys i e) ≡ false → some_two t (drop (i + 1) xs) (drop (i + 1) ys) ≡ some_two t xs ys
-  some_two_on d e l k h = sym (some_two_more t xs ys i d e false l k (sym h)) ∙ left

@@ -1,11 +1,7 @@
 -- Tests over lists: what a test that passed or failed says of the elements, and the step of a loop over two lists. Assumes nothing.
-use Rattle.std.proofs.Common.{◌≡◌, ℕ, zero, suc, ◌+◌, ◌<◌, Bool, true, false, cond, ◌||◌, List, [], ◌∷◌, length, get_or, drop, sym, refl, ap, ◌∙◌, inl, inr, arith}
-use Rattle.std.proofs.lemmas.List.{drop_more}
+use Rattle.std.proofs.Common.{◌≡◌, ℕ, zero, suc, ◌<◌, Bool, true, false, cond, ◌||◌, List, [], ◌∷◌, length, get_or, refl, ap, ◌∙◌, inl, inr, arith}
 use Rattle.std.proofs.lemmas.Bool.{false≢true, or_right}
-use Rattle.model.specs.Lists.{In, every, some, some_two}
-
-pub absurd : {A : Type 0} → ⊥ → A
-absurd e = elim e [ ]
+use Rattle.model.specs.Lists.{In, every, some}
 
 module _ {X : Type 0} where
   -- an element at which the test passes
@@ -31,9 +27,3 @@ module _ {X : Type 0} where
   every_in t [] e x h = elim h [ ]
   every_in t (y ∷ ys) e x (inl h) = ap t h ∙ (every_in_by t (t y) (every t ys) e).0
   every_in t (y ∷ ys) e x (inr h) = every_in t ys (every_in_by t (t y) (every t ys) e).1 x h
-
-pub some_two_more : {X Y : Type 0} (t : X → Y → Bool) (xs : List X) (ys : List Y) (i : ℕ) (d : X) (f : Y) (b : Bool) → i < length xs → i < length ys → b ≡ t (get_or xs i d) (get_or ys i f) → some_two t (drop i xs) (drop i ys) ≡ (b || some_two t (drop (i + 1) xs) (drop (i + 1) ys))
-some_two_more {X} {Y} t xs ys i d f b lx ly e =
-    ap (λ (l : List X). some_two t l (drop i ys)) (drop_more xs i d lx)
-    ∙ ap (λ (l : List Y). some_two t (get_or xs i d ∷ drop (i + 1) xs) l) (drop_more ys i f ly)
-    ∙ ap (λ (v : Bool). v || some_two t (drop (i + 1) xs) (drop (i + 1) ys)) (sym e)

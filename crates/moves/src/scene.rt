@@ -43,6 +43,7 @@ impl Surcharge {
 
 impl Move {
     /// Its time in the scene before it, in tenths of a second.
+    // A `for` loop over the surcharges, by a rule of the project.
     pub fn time(&self, scene: &[u8]) -> u32
         ensures { result ≡ time_of (move_of self.now) scene.now }
     {

@@ -76,9 +76,6 @@ pieces_map g (suc n) m c =
 
 -- ---- least times
 
-some_same : (x y : ℕ) → ◌≡◌ {A = Time} (Some x) (Some y) → x ≡ y
-some_same x y h = cc
-
 none_some : (x : ℕ) → ◌≡◌ {A = Time} None (Some x) → ⊥
 none_some x h = both_ways (is_some {T = ℕ} None) refl (ap is_some h)
 

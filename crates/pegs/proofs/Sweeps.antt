@@ -19,12 +19,11 @@ use Rattle.store.specs.Stores.{chart, Fine, Store}
 use Rattle.store.specs.Fillings.{Stuck, Owned, name}
 use Rattle.store.proofs.Grows.{fine_kept, chart_kept, name_kept}
 use Rattle.store.proofs.Fits.{roomy, overfull}
-use Rattle.build.specs.Builds.{Grows, Built}
+use Rattle.build.specs.Builds.{Built}
 use Rattle.build.specs.Grew.{nodes_in, shape_in, Grew}
 use Rattle.build.specs.declared.node_store.NodeStore.{NodeStore}
 use Rattle.build.proofs.Steps.{get_or_in}
-use Rattle.build.proofs.Grown.{ready_in}
-use Rattle.pegs.specs.Held.{peg_chart, pegs_of, peg_fine, pegs_in, Held, CopiesPeg, Swept}
+use Rattle.pegs.specs.Held.{peg_chart, pegs_of, peg_fine, CopiesPeg, Swept}
 
 -- Pegs
 
@@ -51,11 +50,8 @@ chart_in nodes shape (None ∷ ps) e (inr i) = chart_in nodes shape ps e i
 chart_in nodes shape (Some d ∷ ps) e (inl h) = inl (let z : e ≡ d = cc in ap (chart nodes shape) z)
 chart_in nodes shape (Some d ∷ ps) e (inr i) = inr (chart_in nodes shape ps e i)
 
-pub held_room : (store : NodeStore) (pegs : List (Option Edge)) → Held store pegs → parts_of_all (shape_in store) (charts (pegs_in store pegs)) ≤ length (nodes_in store)
-held_room store pegs held =
-    let nodes = nodes_in store in
-    let shape = shape_in store in
-    subst (λ cs. parts_of_all shape cs ≤ length nodes) (sym (charts_on nodes shape pegs)) (roomy nodes shape store.ready.store (edges_on pegs) (fine_on nodes shape pegs held.fine))
+pub held_room : (nodes : List (Option Node)) (shape : Shape) (pegs : List (Option Edge)) → Store nodes shape → AllByRecursion (peg_fine nodes shape) pegs → parts_of_all shape (charts (pegs_of nodes shape pegs)) ≤ length nodes
+held_room nodes shape pegs store fine = subst (λ cs. parts_of_all shape cs ≤ length nodes) (sym (charts_on nodes shape pegs)) (roomy nodes shape store (edges_on pegs) (fine_on nodes shape pegs fine))
 
 map_all : {A B : Type 0} (f g : A → B) (xs : List A) → AllByRecursion (λ x. f x ≡ g x) xs → map f xs ≡ map g xs
 map_all f g [] a = refl
@@ -76,12 +72,12 @@ module _ (old new : List (Option Node)) (shape : Shape) (store : Store old shape
 
 -- The sweep
 
-module _ (source spare new : NodeStore) (old pegs : List (Option Edge)) (i : ℕ) (held : Held source old) (il : i < length pegs) (w : Swept source spare old pegs i) where
+module _ (source : List (Option Node)) (spare new : NodeStore) (old pegs : List (Option Edge)) (i : ℕ) (whole : Store source (shape_in spare)) (held : AllByRecursion (peg_fine source (shape_in spare)) old) (il : i < length pegs) (w : Swept source (nodes_in spare) (shape_in spare) old pegs i) where
   abbrev shape : Shape
-  shape = shape_in source
+  shape = shape_in spare
 
   store : Store (nodes_in spare) shape
-  store = (ready_in source spare (sym w.alike.shape)).store
+  store = spare.ready.store
 
   next_is : get_or pegs i None ≡ get_or old i None
   next_is = ap (λ n. get_or pegs n None) (let z : i ≡ i + 0 = omega arith in z) ∙ sym (get_or-drop i pegs 0 None) ∙ ap (λ t. get_or t 0 None) w.rest ∙ get_or-drop i old 0 None ∙ ap (λ n. get_or old n None) (let z : i + 0 ≡ i = omega arith in z)
@@ -89,63 +85,59 @@ module _ (source spare new : NodeStore) (old pegs : List (Option Edge)) (i : ℕ
   next_old : In (get_or pegs i None) old
   next_old = subst (λ p. In p old) (sym next_is) (get_or_in old i None (omega (arith, il, w.long)))
 
-  pub next_fine : peg_fine (nodes_in source) shape (get_or pegs i None)
-  next_fine = all_in (peg_fine (nodes_in source) shape) (get_or pegs i None) old held.fine next_old
+  pub next_fine : peg_fine source shape (get_or pegs i None)
+  next_fine = all_in (peg_fine source shape) (get_or pegs i None) old held next_old
 
   -- one peg more, given its copy in a store that has grown by its parts
-  more : (r : Option Edge) → shape ≡ shape_in new → Kept (nodes_in spare) (nodes_in new) → length (nodes_in new) ≡ length (nodes_in spare) → Owned (nodes_in new) shape (charts (pegs_in source old)) → peg_fine (nodes_in new) shape r → peg_chart (nodes_in new) shape r ≡ peg_chart (nodes_in source) shape (get_or pegs i None) → Swept source new old (set pegs i r) (i + 1)
-  more r still kept size owned fine is =
+  more : (r : Option Edge) → Kept (nodes_in spare) (nodes_in new) → length (nodes_in new) ≡ length (nodes_in spare) → Owned (nodes_in new) shape (charts (pegs_of source shape old)) → peg_fine (nodes_in new) shape r → peg_chart (nodes_in new) shape r ≡ peg_chart source shape (get_or pegs i None) → Swept source (nodes_in new) shape old (set pegs i r) (i + 1)
+  more r kept size owned fine is =
       let all = peg_fine (nodes_in new) shape in
       let first = pegs_fine_kept (nodes_in spare) (nodes_in new) shape store kept (take i pegs) w.fine in
       record {
-        alike = record { shape = still; size = size ∙ w.alike.size };
+        size = size ∙ w.size;
         owned = owned;
         fine = subst (AllByRecursion all) (sym (take_more_set pegs i r il)) (recursion_from_All all (take i pegs ++ r ∷ []) (All-push all (take i pegs) r (All-from_recursion all (take i pegs) first) fine));
         same =
             ap (pegs_of (nodes_in new) shape) (take_more_set pegs i r il) ∙ map-append (peg_chart (nodes_in new) shape) (take i pegs) (r ∷ [])
             ∙ ap (λ t. t ++ peg_chart (nodes_in new) shape r ∷ []) (pegs_kept (nodes_in spare) (nodes_in new) shape store kept (take i pegs) w.fine ∙ w.same)
-            ∙ ap (λ d. pegs_of (nodes_in source) shape (take i old) ++ d ∷ []) (is ∙ ap (peg_chart (nodes_in source) shape) next_is)
-            ∙ sym (ap (pegs_of (nodes_in source) shape) (take_more old i None (omega (arith, il, w.long))) ∙ map-append (peg_chart (nodes_in source) shape) (take i old) (get_or old i None ∷ []));
+            ∙ ap (λ d. pegs_of source shape (take i old) ++ d ∷ []) (is ∙ ap (peg_chart source shape) next_is)
+            ∙ sym (ap (pegs_of source shape) (take_more old i None (omega (arith, il, w.long))) ∙ map-append (peg_chart source shape) (take i old) (get_or old i None ∷ []));
         rest = drop-set-lt (i + 1) pegs i r (omega arith) ∙ sym (drop-drop 1 i pegs) ∙ ap (drop 1) w.rest ∙ drop-drop 1 i old;
         long = lib.ListN.length-set pegs i r ∙ w.long;
       }
 
-  module _ (e : Edge) (at : get_or pegs i None ≡ Some e) (g : Grew spare new 0 (chart (nodes_in source) (shape_in spare) e)) where
-    still : shape ≡ shape_in new
-    still = w.alike.shape ∙ sym g.same
-
-    here : Grows (nodes_in spare) (nodes_in new) shape 0 (chart (nodes_in source) shape e)
-    here = subst (λ s. Grows (nodes_in spare) (nodes_in new) s 0 (chart (nodes_in source) s e)) (sym w.alike.shape) g.grows
-
-    e_in : In (chart (nodes_in source) shape e) (charts (pegs_in source old))
-    e_in = chart_in (nodes_in source) shape old e (subst (λ p. In p old) at next_old)
+  module _ (e : Edge) (at : get_or pegs i None ≡ Some e) (g : Grew spare new 0 (chart source (shape_in spare) e)) where
+    e_in : In (chart source shape e) (charts (pegs_of source shape old))
+    e_in = chart_in source shape old e (subst (λ p. In p old) at next_old)
 
     -- the source has room for all of them
-    never : Stuck (nodes_in new) shape 0 (chart (nodes_in source) shape e) → ⊥
+    never : Stuck (nodes_in new) shape 0 (chart source shape e) → ⊥
     never s =
-        let more = overfull (nodes_in spare) (nodes_in new) shape store here.store here.kept (charts (pegs_in source old)) (chart (nodes_in source) shape e) e_in w.owned here.grown s in
-        let less = held_room source old held in
-        omega (arith, more, less, w.alike.size, here.same)
+        let more = overfull (nodes_in spare) (nodes_in new) shape store g.grows.store g.grows.kept (charts (pegs_of source shape old)) (chart source shape e) e_in w.owned g.grows.grown s in
+        let less = held_room source shape old whole held in
+        omega (arith, more, less, w.size, g.grows.same)
 
-    owned_more : Owned (nodes_in new) shape (charts (pegs_in source old))
-    owned_more k x h = elim (here.grown k x h) [
-      | inl q ↦ in_cast (name (nodes_in spare) shape k) (name (nodes_in new) shape k) (flat_map (parts shape 0) (charts (pegs_in source old))) (name_kept (nodes_in spare) (nodes_in new) here.kept shape store k x q) (w.owned k x q)
-      | inr q ↦ each_in (parts shape 0) (name (nodes_in new) shape k) (chart (nodes_in source) shape e) (charts (pegs_in source old)) e_in q
+    owned_more : Owned (nodes_in new) shape (charts (pegs_of source shape old))
+    owned_more k x h = elim (g.grows.grown k x h) [
+      | inl q ↦ in_cast (name (nodes_in spare) shape k) (name (nodes_in new) shape k) (flat_map (parts shape 0) (charts (pegs_of source shape old))) (name_kept (nodes_in spare) (nodes_in new) g.grows.kept shape store k x q) (w.owned k x q)
+      | inr q ↦ each_in (parts shape 0) (name (nodes_in new) shape k) (chart source shape e) (charts (pegs_of source shape old)) e_in q
     ]
 
-    copied : (r : Option Edge) → Built (nodes_in new) shape 0 (chart (nodes_in source) shape e) r → Swept source new old (set pegs i r) (i + 1)
+    copied : (r : Option Edge) → Built (nodes_in new) shape 0 (chart source shape e) r → Swept source (nodes_in new) shape old (set pegs i r) (i + 1)
     copied None s = absurd (never s)
     copied (Some c) st =
-        more (Some c) still here.kept here.same owned_more
-        (st.0, ap (some late) st.1 ∙ (subst (λ p. peg_fine (nodes_in source) shape p) at next_fine).1)
-        (ap {B = Option Chart} Some st.1 ∙ sym (ap (peg_chart (nodes_in source) shape) at))
+        more (Some c) g.grows.kept g.grows.same owned_more
+        (st.0, ap (some late) st.1 ∙ (subst (λ p. peg_fine source shape p) at next_fine).1)
+        (ap {B = Option Chart} Some st.1 ∙ sym (ap (peg_chart source shape) at))
 
-  pub swept_more : (r : Option Edge) → CopiesPeg (nodes_in source) spare new (get_or pegs i None) r → Swept source new old (set pegs i r) (i + 1)
+  pub swept_more : (r : Option Edge) → CopiesPeg source spare new (get_or pegs i None) r → (shape_in new ≡ shape_in spare) × Swept source (nodes_in new) (shape_in spare) old (set pegs i r) (i + 1)
   swept_more r h = go (get_or pegs i None) refl h
     where
-      go : (p : Option Edge) → get_or pegs i None ≡ p → CopiesPeg (nodes_in source) spare new p r → Swept source new old (set pegs i r) (i + 1)
+      go : (p : Option Edge) → get_or pegs i None ≡ p → CopiesPeg source spare new p r → (shape_in new ≡ shape_in spare) × Swept source (nodes_in new) (shape_in spare) old (set pegs i r) (i + 1)
       go None at c =
-          let back = sym c.0 in
-          more r (w.alike.shape ∙ ap shape_in back) (subst (λ (n : NodeStore). Kept (nodes_in spare) (nodes_in n)) back (λ k x q. q)) (ap (λ (n : NodeStore). length (nodes_in n)) c.0) (subst (λ (n : NodeStore). Owned (nodes_in n) shape (charts (pegs_in source old))) back w.owned)
-          (subst (peg_fine (nodes_in new) shape) (sym c.1) tt) (ap (peg_chart (nodes_in new) shape) c.1 ∙ sym (ap (peg_chart (nodes_in source) shape) at))
-      go (Some e) at c = copied e at c.0 r (subst (λ s. Built (nodes_in new) s 0 (chart (nodes_in source) s e) r) (sym w.alike.shape) c.1)
+          let back = sym c.0 in (
+            ap shape_in c.0,
+            more r (subst (λ (n : NodeStore). Kept (nodes_in spare) (nodes_in n)) back (λ k x q. q)) (ap (λ (n : NodeStore). length (nodes_in n)) c.0) (subst (λ (n : NodeStore). Owned (nodes_in n) shape (charts (pegs_of source shape old))) back w.owned)
+                (subst (peg_fine (nodes_in new) shape) (sym c.1) tt) (ap (peg_chart (nodes_in new) shape) c.1 ∙ sym (ap (peg_chart source shape) at)),
+          )
+      go (Some e) at c = (c.0.same, copied e at c.0 r c.1)

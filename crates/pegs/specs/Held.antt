@@ -51,11 +51,11 @@ abbrev pub CopiesPeg : List (Option Node) → NodeStore → NodeStore → Option
 CopiesPeg source old new None r = (new ≡ old) × (r ≡ None)
 CopiesPeg source old new (Some e) r = Grew old new 0 (chart source (shape_in old) e) × Built (nodes_in new) (shape_in old) 0 (chart source (shape_in old) e) r
 
--- the first i pegs are copied
-pub record Swept (source spare : NodeStore) (old pegs : List (Option Edge)) (i : ℕ) : Type 0 where
-  pub alike : Alike source spare
-  pub owned : Owned (nodes_in spare) (shape_in source) (charts (pegs_in source old))
-  pub fine : AllByRecursion (peg_fine (nodes_in spare) (shape_in source)) (take i pegs)
-  pub same : pegs_of (nodes_in spare) (shape_in source) (take i pegs) ≡ pegs_of (nodes_in source) (shape_in source) (take i old)
+-- the first i pegs are copied from the slots of one store to those of another like it
+pub record Swept (source nodes : List (Option Node)) (shape : Shape) (old pegs : List (Option Edge)) (i : ℕ) : Type 0 where
+  pub size : length nodes ≡ length source
+  pub owned : Owned nodes shape (charts (pegs_of source shape old))
+  pub fine : AllByRecursion (peg_fine nodes shape) (take i pegs)
+  pub same : pegs_of nodes shape (take i pegs) ≡ pegs_of source shape (take i old)
   pub rest : drop i pegs ≡ drop i old
   pub long : length pegs ≡ length old

@@ -52,8 +52,17 @@ pub ready_shape : {c : Contents} {m : Meaning} → ∥ Ready c m ∥₁ → m.sh
 ready_shape h = ∥∥₁_elim h (is_set ℕ_set _ _) (λ r. r.shape)
 
 -- what was said of a slice holds of what it lends
-pub said_of : (b : Bool) (s s' : Scene) (ps ps' : List model.Pair) → s' ≡ s → ps' ≡ ps → b ≡ all_hold s' ps' → all_hold s ps ≡ b
+said_of : (b : Bool) (s s' : Scene) (ps ps' : List model.Pair) → s' ≡ s → ps' ≡ ps → b ≡ all_hold s' ps' → all_hold s ps ≡ b
 said_of b s s' ps ps' es eps h = sym (h ∙ ap (λ t. all_hold t ps') es ∙ ap (all_hold s) eps)
+
+-- a move that may be made in a scene, and where its effects lead
+pub record Reached (s : Scene) (a : model.Move) (t : Scene) : Type 0 where
+  pub met : all_hold s a.conditions ≡ true
+  pub led : t ≡ applied a.effects s
+
+-- as the code has it, from what it lends of the scene, the conditions and the effects
+pub reached : (a : model.Move) {s lent t : Scene} {ps qs : List model.Pair} → lent ≡ s → ps ≡ a.conditions → true ≡ all_hold lent ps → qs ≡ a.effects → t ≡ applied qs s → Reached s a t
+reached a {s} {lent} {t} {ps} {qs} scene conditions holds effects led = record { met = said_of true s lent a.conditions ps scene conditions holds; led = led ∙ ap (λ es. applied es s) effects }
 
 module _ (c : Contents) (m : Meaning) (p : Point) (stands : Stands c m p) (a : model.Move) (law : LawfulMove c.settings a) where
   abbrev v : Scene → Time

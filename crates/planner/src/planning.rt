@@ -52,6 +52,7 @@ fn best_way<S: Shelf>(
 }
 
 /// Plans with a shelf of the rig's shape.
+// The shape is asked, and no type says it: the rounds change the shelf, and a type would owe it anew after each call.
 fn search<S: Shelf>(rig: &Rig, shelf: &mut S, sheet: &mut [u8]) -> Result<Plan, PlanFault>
     requires shape { (S.meaning shelf.old).shape ≡ (contents rig.now).settings }
     ensures found { Found (contents rig.now) (S.meaning shelf.old) sheet.old result sheet.new }

@@ -1,5 +1,5 @@
 //! The walk along a plan: from each scene the move of the smallest number that loses no time.
-ghost use Rattle.std.specs.Prelude.{◌≡◌, ◌<◌, false, map, Some, slice_set};
+ghost use Rattle.std.specs.Prelude.{◌≡◌, ◌<◌, false, map, Some};
 ghost use Rattle.lists.specs.Shorts.{listed};
 ghost use Rattle.model.specs.Charts.{at};
 ghost use Rattle.model.specs.Scenes.{SceneOf};
@@ -12,6 +12,7 @@ ghost use Rattle.planner.specs.Walking.{first_peg, Ready, Stands, Led, Strode, S
 
 use crate::point::*;
 use lists::limits::MOST_DEVICES;
+use lists::places::set_in;
 use lists::short::Short;
 use moves::entry::Move;
 use moves::scene::{apply, every_holds};
@@ -46,16 +47,7 @@ fn beginning(rig: &Rig, time: u64) -> Point
     }
 }
 
-/// Writes a number at a place of a sheet, if it goes so far.
-fn note(sheet: &mut [u8], place: usize, number: u8)
-    ensures { sheet.new ≡ slice_set sheet.old place number }
-{
-    // By index: after a write through `get_mut` a proof knows no element of a slice.
-    if place < sheet.len() {
-        sheet[place] = number;
-    }
-}
-
+// `Stands` is asked thrice: it relates a point to this walk, and a type that holds both would be made for each point.
 impl<'a, S: Shelf> Walk<'a, S> {
     /// Where a move leads, if it may be made and loses no time.
     fn led_by_move(&self, point: &Point, entry: &Move) -> Option<Point>
@@ -108,9 +100,10 @@ impl<'a, S: Shelf> Walk<'a, S> {
     {
         let mut point = beginning(self.rig, time);
         let mut moves = 0;
+        // By hand: `fold` asks that its iterator ends, and `successors` has no end that a contract could name.
         while point.left > 0 {
             let stride = self.next_stride(&point);
-            note(sheet, moves, stride.number);
+            set_in(sheet, moves, stride.number);
             moves += 1;
             point = stride.end;
         }

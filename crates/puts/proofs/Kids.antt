@@ -1,5 +1,5 @@
 -- An edge at 0 above the device, once a pair is put, kid by kid. Assumes nothing.
-use Rattle.std.proofs.Common.{◌≡◌, ℕ, suc, ◌+◌, ◌-◌, ◌*◌, ◌<◌, ◌≤◌, false, List, length, get_or, take, drop, set, Some, None, Option, sym, refl, zero-add, ap, ◌∙◌, subst, arith, length-drop}
+use Rattle.std.proofs.Common.{◌≡◌, ℕ, suc, ◌+◌, ◌-◌, ◌*◌, ◌<◌, ◌≤◌, List, length, get_or, take, drop, set, Some, None, Option, sym, refl, zero-add, ap, ◌∙◌, subst, arith, length-drop}
 use Rattle.std.specs.List.{range_with_len, flat_map}
 use Rattle.std.proofs.lemmas.List.{drop_more, get_or-take, get_or-drop}
 use Rattle.std.proofs.lemmas.List.FromFn.{get_or-range_with_len}
@@ -13,18 +13,18 @@ use Rattle.model.specs.Lists.{some}
 use Rattle.model.specs.Scenes.{Shape, size}
 use Rattle.model.proofs.Charting.{put_length}
 use Rattle.parts.proofs.Tabulated.{put_below}
-use Rattle.store.specs.Stores.{none_edge, node_at, chart, Fine, Store}
+use Rattle.store.specs.Stores.{none_edge, node_at, chart, Fine}
 use Rattle.store.specs.Fillings.{Stuck}
 use Rattle.store.proofs.Grows.{chart_kept, fine_kept}
 use Rattle.build.specs.declared.node_store.NodeStore.{NodeStore}
-use Rattle.build.specs.Builds.{raised, piece, Makeable, Built, together, Stands}
+use Rattle.build.specs.Builds.{raised, piece, Legal, Makeable, Built, together, Stands}
 use Rattle.build.specs.Grew.{nodes_in, shape_in, Grew, Begun}
 use Rattle.build.proofs.Grown.{grew_next, stuck_next, begun_next, begun_makeable, grew_made, built_made}
 use Rattle.build.proofs.Spreads.{piece_at, made_long}
-use Rattle.build.proofs.Sides.{piece_timely, side_formed, side_chart, side_fine, side_piece}
+use Rattle.build.proofs.Sides.{piece_timely, side_formed, side_fine, side_kid}
 use Rattle.memo.specs.Results.{Right}
 use Rattle.puts.specs.Puts.{goal, at_zero}
-use Rattle.puts.proofs.Putting.{goal_timely}
+use Rattle.puts.proofs.Putting.{Side, whole, whole_timely, lt}
 
 -- what the result for an edge at 0 is remembered under
 abbrev pub key_of : ℕ → ℕ → ℕ → ℕ → Key
@@ -40,10 +40,7 @@ raised_zero e = go e.weight refl
 -- what is known of an edge at 0 above the device; the edge has the child k
 pub record Below (old : NodeStore) (l v d k : ℕ) : Type 0 where
   pub below : l < v
-  pub depth : v < length (shape_in old)
-  pub legal : d < get_or (shape_in old) v 0
-  pub fine : Fine (nodes_in old) (drop l (shape_in old)) l (at_zero k)
-  pub timely : some late (chart (nodes_in old) (drop l (shape_in old)) (at_zero k)) ≡ false
+  pub side : Side old l v d (at_zero k) 0
 
 -- what is known while the first i of the n kids are built
 pub record Way (old mid : NodeStore) (l v d k n i : ℕ) (kids : List Edge) : Type 0 where
@@ -57,30 +54,21 @@ module _ {old : NodeStore} {l v d k : ℕ} (s : Below old l v d k) where
   abbrev shape : Shape
   shape = shape_in old
 
-  abbrev store : Store nodes shape
-  store = old.ready.store
-
   -- the chart of the edge, and the chart that is to be built
   abbrev given : Chart
   given = chart nodes (drop l shape) (at_zero k)
 
   abbrev inner : Chart
-  inner = goal nodes shape l v d (at_zero k)
-
-  lt : l < length shape
-  lt = omega (arith, s.below, s.depth)
-
-  inner_timely : some late inner ≡ false
-  inner_timely = goal_timely (drop l shape) (v - l) d given s.timely
+  inner = whole s.side
 
   -- as it is remembered
   known_right : (new : List (Option Node)) → Kept nodes new → (r : Edge) → Stands new shape l inner r → Right new shape (key_of l v d k) r
   known_right new kept r st =
       let ns = drop l shape in
-      let p = chart_kept nodes new kept shape store ns l (at_zero k) refl s.fine in
+      let p = chart_kept nodes new kept shape old.ready.store ns l (at_zero k) refl s.side.legal.fine in
       record {
-        left = fine_kept nodes new kept ns l (at_zero k) s.fine;
-        right = fine_kept nodes new kept ns l (at_zero k) s.fine;
+        left = fine_kept nodes new kept ns l (at_zero k) s.side.legal.fine;
+        right = fine_kept nodes new kept ns l (at_zero k) s.side.legal.fine;
         stands = (st.0, st.1 ∙ ap (put_chart ns (v - l) d) (sym p));
       }
 
@@ -91,10 +79,10 @@ module _ {old : NodeStore} {l v d k : ℕ} (s : Below old l v d k) where
   inner_is : inner ≡ flat_map fanned (range_with_len 0 (get_or shape l 0))
   inner_is =
       let ns = drop (l + 1) shape in
-      let at = drop_more shape l 0 lt in
+      let at = drop_more shape l 0 (lt s.side) in
       let z : v - l ≡ suc (v - (l + 1)) = omega (arith, s.below) in
-      let vl : v - (l + 1) < length ns = omega (arith, length-drop (l + 1) shape, s.depth, s.below) in
-      let dl : d < get_or ns (v - (l + 1)) 0 = subst (λ n. d < n) (sym (get_or-drop (l + 1) shape (v - (l + 1)) 0 ∙ ap (λ j. get_or shape j 0) (let y : l + 1 + (v - (l + 1)) ≡ v = omega (arith, s.below) in y))) s.legal in
+      let vl : v - (l + 1) < length ns = omega (arith, length-drop (l + 1) shape, s.side.depth, s.below) in
+      let dl : d < get_or ns (v - (l + 1)) 0 = subst (λ n. d < n) (sym (get_or-drop (l + 1) shape (v - (l + 1)) 0 ∙ ap (λ j. get_or shape j 0) (let y : l + 1 + (v - (l + 1)) ≡ v = omega (arith, s.below) in y))) s.side.setting in
       (λ i. put_chart (at i) (z i) d given) ∙ put_below (get_or shape l 0) (v - (l + 1)) d ns given vl dl
 
   fanned_long : (j : ℕ) → length (fanned j) ≡ size (drop (l + 1) shape)
@@ -111,17 +99,16 @@ module _ {old : NodeStore} {l v d k : ℕ} (s : Below old l v d k) where
     kid_chart : (j : ℕ) → j < get_or shape l 0 → chart nodes (drop (l + 1) shape) (get_or x.edges j none_edge) ≡ piece shape l given j
     kid_chart j jl =
         ap (chart nodes (drop (l + 1) shape)) (sym (raised_zero (get_or x.edges j none_edge)))
-        ∙ sym (side_piece nodes shape store l lt (at_zero k) 0 x s.fine refl here j jl)
-        ∙ ap (λ c. piece shape l c j) (sym (side_chart nodes shape store l lt (at_zero k) 0 x s.fine refl here))
+        ∙ sym (side_kid nodes shape old.ready.store l (lt s.side) (at_zero k) 0 x s.side.legal.fine refl here j jl)
 
     kid_fine : (j : ℕ) → j < get_or shape l 0 → Fine nodes (drop (l + 1) shape) (l + 1) (get_or x.edges j none_edge)
-    kid_fine j jl = subst (Fine nodes (drop (l + 1) shape) (l + 1)) (raised_zero (get_or x.edges j none_edge)) (side_fine nodes shape store l lt (at_zero k) 0 x s.fine refl here j jl)
+    kid_fine j jl = subst (Fine nodes (drop (l + 1) shape) (l + 1)) (raised_zero (get_or x.edges j none_edge)) (side_fine nodes shape old.ready.store l (lt s.side) (at_zero k) 0 x s.side.legal.fine refl here j jl)
 
     -- the kids one by one, the first i of n
     module _ {mid : NodeStore} {n i : ℕ} {kids : List Edge} (p : Way old mid l v d k n i kids) where
       -- the node has an edge for each of them
       edges_counted : length (take n x.edges) ≡ get_or shape l 0
-      edges_counted = ap (λ m. length (take m x.edges)) p.count ∙ (side_formed nodes shape store l lt (at_zero k) 0 x s.fine refl here).wide
+      edges_counted = ap (λ m. length (take m x.edges)) p.count ∙ (side_formed nodes shape old.ready.store l (lt s.side) (at_zero k) 0 x s.side.legal.fine refl here).wide
 
       module _ (il : i < length (take n x.edges)) where
         abbrev kid : Edge
@@ -137,14 +124,14 @@ module _ {old : NodeStore} {l v d k : ℕ} (s : Below old l v d k) where
         fine_there = subst (Fine nodes (drop (l + 1) shape) (l + 1)) (sym kid_is) (kid_fine i within)
 
         next_chart : chart (nodes_in mid) (drop (l + 1) shape) kid ≡ piece shape l given i
-        next_chart = chart_kept nodes (nodes_in mid) p.begun.way.grows.kept shape store (drop (l + 1) shape) (l + 1) kid refl fine_there ∙ ap (chart nodes (drop (l + 1) shape)) kid_is ∙ kid_chart i within
+        next_chart = chart_kept nodes (nodes_in mid) p.begun.way.grows.kept shape old.ready.store (drop (l + 1) shape) (l + 1) kid refl fine_there ∙ ap (chart nodes (drop (l + 1) shape)) kid_is ∙ kid_chart i within
 
         -- what is asked of the kid
-        pub next_fine : Fine (nodes_in mid) (drop (l + 1) (shape_in mid)) (l + 1) kid
-        next_fine = subst (λ t. Fine (nodes_in mid) (drop (l + 1) t) (l + 1) kid) (sym p.begun.same) (fine_kept nodes (nodes_in mid) p.begun.way.grows.kept (drop (l + 1) shape) (l + 1) kid fine_there)
-
-        pub next_timely : some late (chart (nodes_in mid) (drop (l + 1) (shape_in mid)) kid) ≡ false
-        next_timely = ap (λ t. some late (chart (nodes_in mid) (drop (l + 1) t) kid)) p.begun.same ∙ ap (some late) next_chart ∙ piece_timely shape l given i s.timely
+        pub next_legal : Legal (nodes_in mid) (shape_in mid) (l + 1) kid
+        next_legal = subst (λ t. Legal (nodes_in mid) t (l + 1) kid) (sym p.begun.same) (record {
+          fine = fine_kept nodes (nodes_in mid) p.begun.way.grows.kept (drop (l + 1) shape) (l + 1) kid fine_there;
+          timely = ap (some late) next_chart ∙ piece_timely shape l given i s.side.legal.timely;
+        })
 
         -- what it is to have, in the store so far
         abbrev next : Chart
@@ -155,13 +142,13 @@ module _ {old : NodeStore} {l v d k : ℕ} (s : Below old l v d k) where
 
         module _ (new : NodeStore) (g : Grew mid new (l + 1) next) where
           pub put_grew : Grew old new l inner
-          put_grew = grew_next old mid new l inner i kids lt p.begun next within next_is g
+          put_grew = grew_next old mid new l inner i kids (lt s.side) p.begun next within next_is g
 
           pub put_stuck : Stuck (nodes_in new) (shape_in mid) (l + 1) next → Stuck (nodes_in new) shape l inner
-          put_stuck t = stuck_next old mid new l inner i kids lt p.begun next within next_is g t
+          put_stuck t = stuck_next old mid new l inner i kids (lt s.side) p.begun next within next_is g t
 
           pub put_more : (made : Edge) → Stands (nodes_in new) (shape_in mid) (l + 1) next made → Begun old new l inner (i + 1) (set kids i made)
-          put_more made st = begun_next old mid new l inner i kids lt p.begun next within next_is g made st
+          put_more made st = begun_next old mid new l inner i kids (lt s.side) p.begun next within next_is g made st
 
       -- all of them
       module _ (most : i ≤ length (take n x.edges)) (least : length (take n x.edges) ≤ i) where
@@ -169,14 +156,14 @@ module _ {old : NodeStore} {l v d k : ℕ} (s : Below old l v d k) where
         all = omega (arith, most, least, edges_counted)
 
         pub put_makeable : Makeable (nodes_in mid) (shape_in mid) l kids
-        put_makeable = begun_makeable old mid mid l inner i kids lt p.begun inner all inner_long inner_timely
+        put_makeable = begun_makeable old mid mid l inner i kids (lt s.side) p.begun inner all inner_long (whole_timely s.side)
 
         module _ {new : NodeStore} (g : Grew mid new l (together (nodes_in mid) (shape_in mid) l kids)) where
           pub made_grew : Grew old new l inner
-          made_grew = grew_made old mid new l inner i kids lt p.begun inner all inner_long g
+          made_grew = grew_made old mid new l inner i kids (lt s.side) p.begun inner all inner_long g
 
           pub made_built : (r : Option Edge) → Built (nodes_in new) (shape_in mid) l (together (nodes_in mid) (shape_in mid) l kids) r → Built (nodes_in new) shape l inner r
-          made_built r b = built_made old mid new l inner i kids lt p.begun inner all inner_long r b
+          made_built r b = built_made old mid new l inner i kids (lt s.side) p.begun inner all inner_long r b
 
           pub made_right : (made : Edge) → Stands (nodes_in new) (shape_in mid) l (together (nodes_in mid) (shape_in mid) l kids) made → Right (nodes_in new) (shape_in new) (key_of l v d k) made
           made_right made st = subst (λ t. Right (nodes_in new) t (key_of l v d k) made) (sym made_grew.same) (known_right (nodes_in new) made_grew.grows.kept made (made_built (Some made) st))

@@ -15,11 +15,11 @@ use Rattle.store.specs.Stores.{none_edge, node_at, chart, Fine, Store}
 use Rattle.store.specs.Fillings.{Stuck}
 use Rattle.store.proofs.Canon.{knows}
 use Rattle.build.specs.declared.node_store.NodeStore.{NodeStore}
-use Rattle.build.specs.Builds.{raised, piece, spread_chart, Spreadable, Stands}
+use Rattle.build.specs.Builds.{raised, spread_chart, Legal, Spreadable, Stands}
 use Rattle.build.specs.Grew.{nodes_in, shape_in, Grew}
 use Rattle.build.proofs.Steps.{stuck_wider}
 use Rattle.build.proofs.Grown.{grew_alike}
-use Rattle.build.proofs.Sides.{never_chart, earlier_timely, moved_fine, from_zero, raise_timely, raise_stands, side_chart, side_fine, side_piece, side_kid_timely, side_timely}
+use Rattle.build.proofs.Sides.{never_chart, earlier_timely, moved_fine, from_zero, raise_timely, raise_stands, side_kid, side_legal, side_timely}
 use Rattle.puts.specs.Puts.{goal, at_zero}
 
 -- an edge without times stays as it is
@@ -37,9 +37,8 @@ goal_timely ns v d c h = legal_under (put_chart ns v d c) (greatest c) (latest.o
 pub record Side (old : NodeStore) (l v d : ℕ) (e : Edge) (w : ℕ) : Type 0 where
   pub above : l ≤ v
   pub depth : v < length (shape_in old)
-  pub legal : d < get_or (shape_in old) v 0
-  pub fine : Fine (nodes_in old) (drop l (shape_in old)) l e
-  pub timely : some late (chart (nodes_in old) (drop l (shape_in old)) e) ≡ false
+  pub setting : d < get_or (shape_in old) v 0
+  pub legal : Legal (nodes_in old) (shape_in old) l e
   pub weight : e.weight ≡ Some w
 
 module _ {old : NodeStore} {l v d : ℕ} {e : Edge} {w : ℕ} (s : Side old l v d e w) where
@@ -53,30 +52,29 @@ module _ {old : NodeStore} {l v d : ℕ} {e : Edge} {w : ℕ} (s : Side old l v 
   store = old.ready.store
 
   -- the chart that the edge is to have
-  abbrev whole : Chart
+  abbrev pub whole : Chart
   whole = goal nodes shape l v d e
 
-  lt : l < length shape
+  pub whole_timely : some late whole ≡ false
+  whole_timely = goal_timely (drop l shape) (v - l) d (chart nodes (drop l shape) e) s.legal.timely
+
+  pub lt : l < length shape
   lt = omega (arith, s.above, s.depth)
 
   -- at the device, the edge for its setting; x is the node that the edge leads to
   module _ (x : Node) (here : x ≡ node_at nodes e.child) (same : l ≡ v) (k : ℕ) (setting : k ≡ d) where
     low : k < get_or shape l 0
-    low = omega (arith, s.legal, setting, ap (λ j. get_or shape j 0) same)
+    low = omega (arith, s.setting, setting, ap (λ j. get_or shape j 0) same)
 
     pub there_raise : late (plus (Some w) (get_or x.edges k none_edge).weight) ≡ false
-    there_raise = side_timely nodes shape store l lt e w x s.fine s.weight here k low s.timely
+    there_raise = side_timely nodes shape store l lt e w x s.legal.fine s.weight here k low s.legal.timely
 
     module _ (kid : Edge) (is : kid ≡ raised (Some w) (get_or x.edges k none_edge)) where
-      there_fine : Fine nodes (drop (l + 1) shape) (l + 1) kid
-      there_fine = subst (Fine nodes (drop (l + 1) shape) (l + 1)) (sym is) (side_fine nodes shape store l lt e w x s.fine s.weight here k low)
+      there_legal : Legal nodes shape (l + 1) kid
+      there_legal = subst (Legal nodes shape (l + 1)) (sym is) (side_legal nodes shape store l lt e w x s.legal.fine s.weight here k low s.legal.timely)
 
       pub there_spreadable : Spreadable nodes shape l kid
-      there_spreadable = record {
-        depth = lt;
-        fine = there_fine;
-        timely = ap (λ a. some late (chart nodes (drop (l + 1) shape) a)) is ∙ side_kid_timely nodes shape store l lt e w x s.fine s.weight here k low s.timely;
-      }
+      there_spreadable = record { depth = lt; legal = there_legal }
 
       pub there_is : spread_chart shape l (chart nodes (drop (l + 1) shape) kid) ≡ whole
       there_is =
@@ -84,17 +82,17 @@ module _ {old : NodeStore} {l v d : ℕ} {e : Edge} {w : ℕ} (s : Side old l v 
           let ns = drop (l + 1) shape in
           let at = drop_more shape l 0 lt in
           let c = chart nodes (drop l shape) e in
-          let p : get_or (pieces n (size ns) c) k [] ≡ chart nodes ns kid = ap (λ c. piece shape l c k) (side_chart nodes shape store l lt e w x s.fine s.weight here) ∙ side_piece nodes shape store l lt e w x s.fine s.weight here k low ∙ ap (chart nodes ns) (sym is) in
-          let long : length (get_or (pieces n (size ns) c) k []) ≡ size ns = ap length p ∙ (knows nodes shape store ns (l + 1) kid refl there_fine).long in
+          let p : get_or (pieces n (size ns) c) k [] ≡ chart nodes ns kid = side_kid nodes shape store l lt e w x s.legal.fine s.weight here k low ∙ ap (chart nodes ns) (sym is) in
+          let long : length (get_or (pieces n (size ns) c) k []) ≡ size ns = ap length p ∙ (knows nodes shape store ns (l + 1) kid refl there_legal.fine).long in
           let z : 0 ≡ v - l = omega (arith, same) in
           ap (spread_chart shape l) (sym p) ∙ sym (put_here n k ns c low long) ∙ ap (λ t. put_chart t 0 k c) (sym at) ∙ (λ i. put_chart (drop l shape) (z i) (setting i) c)
 
   -- above it, the edge of the same child at 0
-  pub rest_fine : Fine nodes (drop l shape) l (at_zero e.child)
-  rest_fine = moved_fine nodes (drop l shape) l w 0 e s.weight s.fine
-
-  pub rest_timely : some late (chart nodes (drop l shape) (at_zero e.child)) ≡ false
-  rest_timely = earlier_timely w (chart nodes (drop l shape) (at_zero e.child)) (ap (some late) (sym (from_zero nodes (drop l shape) w e s.weight)) ∙ s.timely)
+  pub rest_legal : Legal nodes shape l (at_zero e.child)
+  rest_legal = record {
+    fine = moved_fine nodes (drop l shape) l w 0 e s.weight s.legal.fine;
+    timely = earlier_timely w (chart nodes (drop l shape) (at_zero e.child)) (ap (some late) (sym (from_zero nodes (drop l shape) w e s.weight)) ∙ s.legal.timely);
+  }
 
   abbrev rest : Chart
   rest = goal nodes shape l v d (at_zero e.child)
@@ -116,7 +114,7 @@ module _ {old : NodeStore} {l v d : ℕ} {e : Edge} {w : ℕ} (s : Side old l v 
     -- where they have, the edge is raised
     module _ (k : Edge) (st : Stands (nodes_in new) shape l rest k) where
       pub raised_timely : late (plus (Some w) k.weight) ≡ false
-      raised_timely = raise_timely (nodes_in new) shape g.grows.store l k rest whole w st whole_is (goal_timely (drop l shape) (v - l) d (chart nodes (drop l shape) e) s.timely)
+      raised_timely = raise_timely (nodes_in new) shape g.grows.store l k rest whole w st whole_is whole_timely
 
       pub raised_stands : (r : Edge) → r ≡ raised (Some w) k → Stands (nodes_in new) shape l whole r
       raised_stands r same = raise_stands (nodes_in new) shape g.grows.store l k rest whole w st whole_is r same

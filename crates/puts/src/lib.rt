@@ -1,10 +1,8 @@
 //! A chart once one device is at a setting.
 #![tactic(auto)]
 
-ghost use Rattle.std.specs.Prelude.{◌≡◌, ◌<◌, ◌≤◌, false, length, drop, slice_index};
-ghost use Rattle.model.specs.Charts.{late};
-ghost use Rattle.model.specs.Lists.{some};
-ghost use Rattle.store.specs.Stores.{chart, Fine};
+ghost use Rattle.std.specs.Prelude.{◌<◌, ◌≤◌, length, slice_index};
+ghost use Rattle.build.specs.Builds.{Legal};
 ghost use Rattle.build.specs.Grew.{nodes_in, shape_in, MadeIn};
 ghost use Rattle.puts.specs.Puts as puts;
 
@@ -19,9 +17,8 @@ use nodes::remembered::{Key, Operation, Remembered};
 pub fn put(diagrams: &mut Diagrams, level: usize, device: u8, setting: u8, e: Edge) -> Option<Edge>
     requires above { level ≤ device }
     requires depth { device < length (shape_in diagrams.old.store) }
-    requires legal { setting < slice_index (shape_in diagrams.old.store) device }
-    requires fine { Fine (nodes_in diagrams.old.store) (drop level (shape_in diagrams.old.store)) level e }
-    requires timely { some late (chart (nodes_in diagrams.old.store) (drop level (shape_in diagrams.old.store)) e) ≡ false }
+    requires setting { setting < slice_index (shape_in diagrams.old.store) device }
+    requires legal { Legal (nodes_in diagrams.old.store) (shape_in diagrams.old.store) level e }
     ensures { MadeIn diagrams.old.store diagrams.new.store level (puts.goal (nodes_in diagrams.old.store) (shape_in diagrams.old.store) level device setting e) result }
 {
     let Some(w) = e.weight else {
@@ -48,9 +45,8 @@ fn put_below(
 ) -> Option<Edge>
     requires above { level < device }
     requires depth { device < length (shape_in diagrams.old.store) }
-    requires legal { setting < slice_index (shape_in diagrams.old.store) device }
-    requires fine { Fine (nodes_in diagrams.old.store) (drop level (shape_in diagrams.old.store)) level (puts.at_zero child) }
-    requires timely { some late (chart (nodes_in diagrams.old.store) (drop level (shape_in diagrams.old.store)) (puts.at_zero child)) ≡ false }
+    requires setting { setting < slice_index (shape_in diagrams.old.store) device }
+    requires legal { Legal (nodes_in diagrams.old.store) (shape_in diagrams.old.store) level (puts.at_zero child) }
     ensures { MadeIn diagrams.old.store diagrams.new.store level (puts.goal (nodes_in diagrams.old.store) (shape_in diagrams.old.store) level device setting (puts.at_zero child)) result }
 {
     let edge = Edge {

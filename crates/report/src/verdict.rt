@@ -9,20 +9,10 @@ use steps::fault::PlanFault;
 /// What became of planning. Times are in tenths of a second; the rounds are those that made some scene cheaper.
 #[derive(Clone, Copy, PartialEq, Eq, Debug)]
 pub enum Verdict {
-    /// A way of so many moves.
-    Way {
-        moves: usize,
-        time: u64,
-        rounds: u64,
-    },
-    /// No run of moves leads to a wanted scene.
-    NoWay {
-        rounds: u64,
-    },
+    /// What a plan says.
+    Planned(Plan),
     /// A refusal by its number.
-    Refused {
-        number: u8,
-    },
+    Refused(u8),
 }
 
 /// What a plan answered.
@@ -31,23 +21,8 @@ impl From<Result<Plan, PlanFault>> for Verdict {
 
     fn from(answer: Result<Plan, PlanFault>) -> Verdict {
         match answer {
-            Ok(
-                Plan::Way {
-                    moves,
-                    time,
-                    rounds,
-                },
-            ) => {
-                Verdict::Way {
-                    moves,
-                    time,
-                    rounds,
-                }
-            }
-            Ok(Plan::NoWay { rounds }) => Verdict::NoWay { rounds },
-            Err(fault) => Verdict::Refused {
-                number: fault.number(),
-            },
+            Ok(plan) => Verdict::Planned(plan),
+            Err(fault) => Verdict::Refused(fault.number()),
         }
     }
 }
@@ -57,13 +32,15 @@ impl fmt::Display for Verdict {
 
     fn fmt<W: fmt::Write>(&self, f: &mut fmt::Formatter<W>) -> fmt::Result {
         match self {
-            Verdict::Way {
-                moves,
-                time,
-                rounds,
-            } => write!(f, "way {moves} moves {time} tenths {rounds} rounds"),
-            Verdict::NoWay { rounds } => write!(f, "no way {rounds} rounds"),
-            Verdict::Refused { number } => write!(f, "refused {number}"),
+            Verdict::Planned(
+                Plan::Way {
+                    moves,
+                    time,
+                    rounds,
+                },
+            ) => write!(f, "way {moves} moves {time} tenths {rounds} rounds"),
+            Verdict::Planned(Plan::NoWay { rounds }) => write!(f, "no way {rounds} rounds"),
+            Verdict::Refused(number) => write!(f, "refused {number}"),
         }
     }
 }

@@ -2,7 +2,9 @@
 ghost use Rattle.std.specs.Prelude.{◌≡◌, ◌≤◌, length};
 ghost use Rattle.model.specs.Lists.{some_two};
 ghost use Rattle.model.specs.Limits.{most_devices};
-ghost use Rattle.model.specs.Masks.{ill, admits, wanted, product_of_ones};
+ghost use Rattle.model.specs.Masks.{ill, wanted, product_of_ones};
+
+use moves::masks::admits;
 
 /// Whether a mask admits nothing, or has a bit for no setting of a device with so many.
 fn is_ill(mask: u8, settings: u8) -> bool
@@ -32,13 +34,6 @@ pub(crate) fn product(masks: &[u8]) -> u64
         .product()
 }
 
-/// Whether a mask admits a setting.
-fn is_admitted(mask: u8, setting: u8) -> bool
-    ensures { result ≡ admits mask setting }
-{
-    setting < 8 && (mask >> setting) % 2 == 1
-}
-
 /// Whether every setting of the scene is admitted.
 pub(crate) fn every_admitted(masks: &[u8], scene: &[u8]) -> bool
     ensures { result ≡ wanted masks.now scene.now }
@@ -46,5 +41,5 @@ pub(crate) fn every_admitted(masks: &[u8], scene: &[u8]) -> bool
     masks
         .iter()
         .zip(scene)
-        .all(|(mask, setting)| is_admitted(*mask, *setting))
+        .all(|(mask, setting)| admits(*mask, *setting))
 }

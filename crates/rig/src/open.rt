@@ -40,6 +40,7 @@ fn all_masks(settings: &Short<u8, MOST_DEVICES>) -> Short<u8, MOST_DEVICES>
 
 impl Devices {
     /// The devices of an opening that nothing is wrong with.
+    // Settings, names and scene stay apart, as the call `open` takes them.
     fn open(
         settings: &[u8],
         names: &[Name],

@@ -38,6 +38,7 @@ fn counts_off(settings: &[u8], names: &[Name], scene: &[u8]) -> bool
 }
 
 /// The smallest refusal of an opening that holds.
+// Settings, names and scene are no struct of their own: they come side by side, as the call `open` takes them.
 pub(crate) fn judge_opening(
     settings: &[u8],
     names: &[Name],

@@ -36,6 +36,7 @@ impl Rig {
     }
 
     /// A device's setting and its mask.
+    // A pair without a name of its own: the contract speaks of a setting and a mask side by side.
     pub fn look(&self, device: usize) -> Result<(u8, u8), RigFault>
         ensures { numbered result ≡ looks (contents self.now) device }
     {

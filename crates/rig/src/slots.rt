@@ -1,4 +1,5 @@
 //! The table of move slots, lent as a slice: one slot is read or rewritten by its number.
+// No methods of the rig: by a rule of the project the table of moves is lent as a slice to what reads or rewrites a slot.
 ghost use Rattle.std.specs.Prelude.{◌≡◌, ◌<◌, map, length, Some, None, Option, slice_index_or, slice_set};
 ghost use Rattle.lists.specs.Shorts.{listed};
 ghost use Rattle.model.specs.Refusals.{answer};
@@ -23,6 +24,7 @@ pub(crate) fn occupied(slots: &[Option<Move>], number: usize) -> Result<&Move, R
 pub(crate) fn vacant(slots: &[Option<Move>], number: usize) -> Result<(), RigFault>
     ensures { numbered result ≡ answer (vacancy_checks (map slot_of slots.now) number) tt }
 {
+    // A `match`: the library has no word for an option that must be empty.
     match slots.get(number).ok_or(RigFault::NumberHigh)? {
         Some(_) => Err(RigFault::SlotInUse),
         None => Ok(()),

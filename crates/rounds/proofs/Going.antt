@@ -1,5 +1,5 @@
 -- Rounds one after another, until one makes no scene cheaper. Assumes nothing.
-use Rattle.std.proofs.Common.{◌≡◌, ℕ, zero, suc, ◌+◌, ◌-◌, ◌^◌, ◌<◌, ◌≤◌, Bool, true, false, ◌≢◌, ◌⊎◌, List, [], ◌∷◌, ◌++◌, length, get_or, is_err, IsErrAnd, Some, None, Ok, Err, Option, Result, sym, refl, ap, ◌∙◌, subst, inl, inr, ⊎_elim, arith}
+use Rattle.std.proofs.Common.{◌≡◌, ℕ, zero, suc, ◌+◌, ◌-◌, ◌^◌, ◌<◌, ◌≤◌, Bool, true, false, ◌≢◌, ◌⊎◌, List, [], ◌∷◌, ◌++◌, length, get_or, IsErrAnd, Some, None, Ok, Err, Option, Result, sym, refl, ap, ◌∙◌, subst, inl, inr, ⊎_elim, arith}
 use Rattle.std.specs.List.{range_with_len, flat_map}
 use Rattle.std.proofs.lemmas.List.{append_assoc, append-nil}
 use Rattle.model.specs.Limits.{peg_count}
@@ -19,7 +19,7 @@ use Rattle.steps.specs.declared.fault.PlanFault.TheVariants.{NoRoom}
 use Rattle.steps.specs.Faults.{OfHalt, OfFault}
 use Rattle.steps.specs.Ends.{ends, leaves, Ended, Made}
 use Rattle.rounds.specs.Rounds.{rounds_after, Counted}
-use Rattle.steps.proofs.Steps.{Onward, onward_none, more, all_made}
+use Rattle.steps.proofs.Steps.{Onward, more, all_made}
 use Rattle.rounds.proofs.OfRounds.{made_broken, made_passed}
 use Rattle.rounds.proofs.Leaving.{leaves_shape, hung_peg, round_leaves, copy_leaves}
 
@@ -58,17 +58,14 @@ pub record Going (c : Contents) (start m : Meaning) (n : ℕ) : Type 0 where
   pub changed : (i : ℕ) → i < n → chart_after c (suc i) ≢ chart_after c i
   pub few : n ≤ count c
 
-pub going_none : (c : Contents) (m : Meaning) → Lawful c → length m.pegs ≡ peg_count → m.shape ≡ c.settings → get_or m.pegs 0 None ≡ Some (chart_after c 0) → Going c m m 0
-going_none c m law long same first = record { lawful = law; long = long; onward = onward_none m (rounds_after c 0); shape = same; first = first; changed = λ i h. absurd (omega arith); few = omega arith }
-
 -- no round is counted that a number of 64 bits cannot hold
 pub count_small : {c : Contents} → Lawful c → count c ≤ 8 ^ 12
 count_small {c} law = omega (arith, (rounds_counted c law).few, size_most c.settings (contents_told c law).shape)
 
 -- the exit of a `?` counts nothing
-pub broken_uncounted : (c : Contents) (a : Result ℕ PlanFault) → is_err a ≡ true → Counted c a
-broken_uncounted c (Ok n) b = let z : ◌≡◌ {A = ℕ} 0 1 = cc in absurd (omega arith)
-broken_uncounted c (Err e) b = tt
+pub nothing_counted : (c : Contents) (e : PlanFault) (a : Result ℕ PlanFault) → IsErrAnd a (λ y. y ≡ e) → Counted c a
+nothing_counted c e (Ok n) b = absurd b
+nothing_counted c e (Err f) b = tt
 
 compare_counts : (n k : ℕ) → n ≤ k → (n ≡ k) ⊎ (n < k)
 compare_counts n k h = go n k h

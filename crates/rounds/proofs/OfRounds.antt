@@ -1,5 +1,5 @@
 -- The calls of a round, as the code makes them. Assumes nothing.
-use Rattle.std.proofs.Common.{◌≡◌, ℕ, ◌+◌, ◌<◌, ◌≤◌, List, [], ◌∷◌, ◌++◌, map, length, get_or, drop, IsErrAnd, Some, None, Ok, Err, Option, Result, sym, subst}
+use Rattle.std.proofs.Common.{◌≡◌, ℕ, ◌+◌, ◌<◌, ◌≤◌, List, [], ◌∷◌, ◌++◌, map, length, get_or, drop, IsErrAnd, Some, None, Ok, Err, Option, Result, sym, ◌∙◌, subst}
 use Rattle.std.specs.Result.{MatchResult}
 use Rattle.std.proofs.lemmas.List.{drop_more, drop_all}
 use Rattle.model.specs.Shelves.{Meaning, Call}
@@ -12,6 +12,7 @@ use Rattle.steps.specs.declared.fault.PlanFault.{PlanFault}
 use Rattle.steps.specs.declared.fault.PlanFault.TheVariants.{NoRoom}
 use Rattle.steps.specs.Faults.{Stop, OfHalt, OfFault}
 use Rattle.steps.specs.Ends.{Ended, Hung, Took, Made}
+use Rattle.rounds.specs.Rounds.{Stepped}
 use Rattle.steps.proofs.Steps.{Onward, onward_none, more, halt, all_made, rest_made, err_is_not_ok}
 
 -- Faults
@@ -42,23 +43,38 @@ module _ {start : Meaning} {all : List Step} {m : Meaning} where
   pub last_slot : (r : ℕ) (xs : List (Option Move)) (i : ℕ) → length xs ≤ i → Onward start all m (by_moves r i (map slot_of (drop i xs))) → Onward start all m []
   last_slot r xs i h w = subst (λ ys. Onward start all m (by_moves r i (map slot_of ys))) (drop_all i xs h) w
 
--- a refusal while the move i was worked on
-pub named : (m n : Meaning) (round i : ℕ) (cs : List Call) (r : Result (Unit {0}) Halt) (q : Result (Unit {0}) PlanFault) (P : Halt → PlanFault → Type 0) → ((h : Halt) (e : PlanFault) → P h e → e ≡ NoRoom h.fault h.call h.round (Some i)) →
-    MatchResult r (λ x. q ≡ Ok x) (λ h. IsErrAnd q (P h)) → Hung m round cs r n → Made m (marked round (Some i) cs) q n
-named m n round i cs (Ok x) (Ok y) P says cases h = h (Some i)
-named m n round i cs (Ok x) (Err e) P says cases h = absurd (err_is_not_ok _ _ cases)
-named m n round i cs (Err h) (Ok y) P says cases k = absurd cases
-named m n round i cs (Err h) (Err e) P says cases k = let w = k (Some i) in (w.0, fault_of_halt h (Some i) e (says h e cases) w.0 w.1, w.2, w.3)
+module _ {S : Type 0} {meaning : S → Meaning} {a b : Round S} where
+  -- calls while the move i was worked on, with its number in a refusal
+  pub named : {i : ℕ} {cs : List Call} {r : Result (Unit {0}) Halt} {q : Result (Unit {0}) PlanFault} {P : Halt → PlanFault → Type 0} → ((h : Halt) (e : PlanFault) → P h e → e ≡ NoRoom h.fault h.call h.round (Some i)) →
+      MatchResult r (λ x. q ≡ Ok x) (λ h. IsErrAnd q (P h)) → Took meaning a cs r b → Stepped meaning a (marked a.number (Some i) cs) q b
+  named {i} {cs} {r} {q} {P} says cases t = record { made = go r q cases t.ended; number = t.number; shelf = t.shelf }
+    where
+      go : (r : Result (Unit {0}) Halt) (q : Result (Unit {0}) PlanFault) → MatchResult r (λ x. q ≡ Ok x) (λ h. IsErrAnd q (P h)) → Hung (meaning a.shelf.now) a.number cs r (meaning b.shelf.now) →
+          Made (meaning a.shelf.now) (marked a.number (Some i) cs) q (meaning b.shelf.now)
+      go (Ok x) (Ok y) cases h = h (Some i)
+      go (Ok x) (Err e) cases h = absurd (err_is_not_ok _ _ cases)
+      go (Err h) (Ok y) cases k = absurd cases
+      go (Err h) (Err e) cases k = let w = k (Some i) in (w.0, fault_of_halt h (Some i) e (says h e cases) w.0 w.1, w.2, w.3)
 
-module _ {S : Type 0} {meaning : S → Meaning} {xs : List Call} (ys : List Step) {a b : Round S} where
-  -- calls between moves that are all accepted, and more steps
-  pub took_made : {X : Type 0} (r : Result X PlanFault) (n : Meaning) → Took meaning a xs (Ok tt) b → Made (meaning b.shelf.now) ys r n → Made (meaning a.shelf.now) (marked a.number None xs ++ ys) r n
-  took_made r n t h =
-      rest_made OfFault ys n r (more {X = Unit {0}} (OfHalt None) (marked a.number None xs) ys (meaning b.shelf.now) tt (onward_none (meaning a.shelf.now) (marked a.number None xs ++ ys)) (t.ended None)) h
+  -- calls between moves that are all accepted, and more steps of the same round
+  pub took_stepped : {xs : List Call} (steps : ℕ → List Step) {r : Result (Unit {0}) PlanFault} {n : Round S} → Took meaning a xs (Ok tt) b → Stepped meaning b (steps b.number) r n → Stepped meaning a (marked a.number None xs ++ steps a.number) r n
+  took_stepped {xs} steps {r} {n} t h =
+      let ys = steps a.number in
+      let made = subst (λ k. Made (meaning b.shelf.now) (steps k) r (meaning n.shelf.now)) t.number h.made in
+      record {
+        made = rest_made OfFault ys (meaning n.shelf.now) r (more {X = Unit {0}} (OfHalt None) (marked a.number None xs) ys (meaning b.shelf.now) tt (onward_none (meaning a.shelf.now) (marked a.number None xs ++ ys)) (t.ended None)) made;
+        number = h.number ∙ t.number;
+        shelf = h.shelf ∙ t.shelf;
+      }
 
   -- calls between moves of which one is refused, and more steps: the exit of a `?`
-  pub took_unmade : {X : Type 0} {h : Halt} (r : Result X PlanFault) → IsErrAnd r (λ y. y ≡ NoRoom h.fault h.call h.round None) → Took meaning a xs (Err h) b → Made (meaning a.shelf.now) (marked a.number None xs ++ ys) r (meaning b.shelf.now)
-  took_unmade {h = h} r is t = made_broken (marked a.number None xs) ys (meaning b.shelf.now) h r is (onward_none (meaning a.shelf.now) (marked a.number None xs ++ ys)) (t.ended None)
+  pub took_unstepped : {xs : List Call} (ys : List Step) {h : Halt} (r : Result (Unit {0}) PlanFault) → IsErrAnd r (λ y. y ≡ NoRoom h.fault h.call h.round None) → Took meaning a xs (Err h) b → Stepped meaning a (marked a.number None xs ++ ys) r b
+  took_unstepped {xs} ys {h} r is t =
+      record {
+        made = made_broken (marked a.number None xs) ys (meaning b.shelf.now) h r is (onward_none (meaning a.shelf.now) (marked a.number None xs ++ ys)) (t.ended None);
+        number = t.number;
+        shelf = t.shelf;
+      }
 
 -- the moves of the first i slots were tried
 pub record Lowering {S : Type 0} (meaning : S → Meaning) (start : Round S) (slots : List (Option Move)) (now : Round S) (i : ℕ) : Type 0 where
@@ -66,11 +82,25 @@ pub record Lowering {S : Type 0} (meaning : S → Meaning) (start : Round S) (sl
   pub number : now.number ≡ start.number
   pub shelf : now.shelf.ghost_name ≡ start.shelf.ghost_name
 
-module _ {S : Type 0} {meaning : S → Meaning} {start now : Round S} {slots : List (Option Move)} {i : ℕ} where
-  -- what is left with the next of them
-  pub lowering_next : (x : Option Move) → i < length slots → x ≡ get_or slots i x → Lowering meaning start slots now i →
-      Onward (meaning start.shelf.now) (by_moves start.number 0 (map slot_of slots)) (meaning now.shelf.now) (marked now.number (Some i) (of_slot (slot_of x)) ++ by_moves start.number (i + 1) (map slot_of (drop (i + 1) slots)))
-  lowering_next x h is w = rw w.number (next_slot start.number slots i x h is w.onward)
+module _ {S : Type 0} {meaning : S → Meaning} {start now : Round S} {slots : List (Option Move)} {i : ℕ} (w : Lowering meaning start slots now i) where
+  -- the steps of the next of them
+  abbrev by_next : Option Move → List Step
+  by_next x = marked now.number (Some i) (of_slot (slot_of x))
 
-  pub lowering_all : length slots ≤ i → Lowering meaning start slots now i → Made {X = Unit {0}} (meaning start.shelf.now) (by_moves start.number 0 (map slot_of slots)) (Ok tt) (meaning now.shelf.now)
-  lowering_all h w = all_made (last_slot start.number slots i h w.onward)
+  abbrev by_others : List Step
+  by_others = by_moves start.number (i + 1) (map slot_of (drop (i + 1) slots))
+
+  module _ (x : Option Move) (h : i < length slots) (is : x ≡ get_or slots i x) where
+    left : Onward (meaning start.shelf.now) (by_moves start.number 0 (map slot_of slots)) (meaning now.shelf.now) (by_next x ++ by_others)
+    left = rw w.number (next_slot start.number slots i x h is w.onward)
+
+    -- they were accepted
+    pub lowering_next : {next : Round S} → Stepped meaning now (by_next x) (Ok tt) next → Lowering meaning start slots next (i + 1)
+    lowering_next {next} t = record { onward = more {X = Unit {0}} OfFault (by_next x) by_others (meaning next.shelf.now) tt left t.made; number = t.number ∙ w.number; shelf = t.shelf ∙ w.shelf }
+
+    -- one of them was refused: the exit of a `?`
+    pub lowering_broken : {next : Round S} {e : PlanFault} (r : Result (Unit {0}) PlanFault) → IsErrAnd r (λ y. y ≡ e) → Stepped meaning now (by_next x) (Err e) next → Stepped meaning start (by_moves start.number 0 (map slot_of slots)) r next
+    lowering_broken {next} {e} r b t = record { made = made_passed (by_next x) by_others (meaning next.shelf.now) e r b left t.made; number = t.number ∙ w.number; shelf = t.shelf ∙ w.shelf }
+
+  pub lowering_all : length slots ≤ i → Stepped meaning start (by_moves start.number 0 (map slot_of slots)) (Ok tt) now
+  lowering_all h = record { made = all_made (last_slot start.number slots i h w.onward); number = w.number; shelf = w.shelf }

@@ -5,7 +5,7 @@ ghost use Rattle.model.specs.Shelves.{on, bare};
 ghost use Rattle.rule.specs.Rule.{chart_after, rule};
 ghost use Rattle.rig.specs.Rigs.{contents};
 ghost use Rattle.steps.specs.Ends.{Made};
-ghost use Rattle.rounds.specs.Rounds.{rounds_after, Counted};
+ghost use Rattle.rounds.specs.Rounds.{rounds_after, Counted, Followed};
 
 use crate::rounds::*;
 use rig::frame::Rig;
@@ -23,14 +23,15 @@ fn settled<S: Shelf>(shelf: &S) -> bool
 }
 
 /// Takes rounds until one makes no scene cheaper, and answers how many did.
+// That the rig and the shelf are of one shape is asked here, below, and where a plan is searched: the calls change the
+// shelf, so a type of both would owe this anew after each of them.
 fn repeat_rounds<S: Shelf>(rig: &Rig, round: &mut Round<S>) -> Result<u64, PlanFault>
     requires shape { (S.meaning round.old.shelf.now).shape ≡ (contents rig.now).settings }
     requires first { slice_index_or (S.meaning round.old.shelf.now).pegs 0 None ≡ Some (chart_after (contents rig.now) 0) }
-    ensures made { Made (S.meaning round.old.shelf.now) (rounds_after (contents rig.now) 0) result (S.meaning round.new.shelf.now) }
-    ensures counted { Counted (contents rig.now) result }
-    ensures same_shelf { round.new.shelf.ghost_name ≡ round.old.shelf.ghost_name }
+    ensures followed { Followed S.meaning (contents rig.now) round.old (rounds_after (contents rig.now) 0) result round.new }
 {
     let mut changed = 0;
+    // A loop: a `for` over `0..` ends by a statement, so an `unreachable!()` with a proof of its own would stand below it.
     loop {
         round.number = changed + 1;
         one_round(round, rig.slots())?;
@@ -42,23 +43,13 @@ fn repeat_rounds<S: Shelf>(rig: &Rig, round: &mut Round<S>) -> Result<u64, PlanF
     }
 }
 
-/// Follows the planning rule from round 0 to the round that makes no scene cheaper.
-fn follow<S: Shelf>(rig: &Rig, round: &mut Round<S>) -> Result<u64, PlanFault>
-    requires shape { (S.meaning round.old.shelf.now).shape ≡ (contents rig.now).settings }
-    requires zeroth { round.old.number ≡ 0 }
-    ensures made { Made (S.meaning round.old.shelf.now) (rule (contents rig.now)) result (S.meaning round.new.shelf.now) }
-    ensures counted { Counted (contents rig.now) result }
-    ensures same_shelf { round.new.shelf.ghost_name ≡ round.old.shelf.ghost_name }
-{
-    before_rounds(round, rig.masks())?;
-    repeat_rounds(rig, round)
-}
-
 /// Follows the planning rule up to the round that makes no scene cheaper, and answers how many made some cheaper.
 pub fn iterate<S: Shelf>(rig: &Rig, shelf: &mut S) -> Result<u64, PlanFault>
     requires shape { (S.meaning shelf.old).shape ≡ (contents rig.now).settings }
     ensures made { Made (S.meaning shelf.old) (rule (contents rig.now)) result (S.meaning shelf.new) }
     ensures counted { Counted (contents rig.now) result }
 {
-    follow(rig, &mut Round { shelf, number: 0 })
+    let mut round = Round { shelf, number: 0 };
+    before_rounds(&mut round, rig.masks())?;
+    repeat_rounds(rig, &mut round)
 }

@@ -3,7 +3,8 @@ ghost use Rattle.std.specs.Prelude.{◌≡◌, ◌<◌, ◌≤◌, map, length, 
 ghost use Rattle.model.specs.Limits.{most_devices, most_slots};
 ghost use Rattle.rule.specs.Steps.{masked as the_masked, round_0, of_slot, marked, by_moves, round as the_round};
 ghost use Rattle.moves.specs.Views.{slot_of};
-ghost use Rattle.steps.specs.Ends.{Took, Made};
+ghost use Rattle.steps.specs.Ends.{Took};
+ghost use Rattle.rounds.specs.Rounds.{Stepped};
 
 use moves::entry::Move;
 use shelf::calls::Shelf;
@@ -42,9 +43,7 @@ fn by_move<S: Shelf>(
     slot: &Option<Move>,
 ) -> Result<(), PlanFault>
     requires numbered { number < most_slots }
-    ensures made { Made (S.meaning round.old.shelf.now) (marked round.old.number (Some number) (of_slot (slot_of slot.now))) result (S.meaning round.new.shelf.now) }
-    ensures number { round.new.number ≡ round.old.number }
-    ensures same_shelf { round.new.shelf.ghost_name ≡ round.old.shelf.ghost_name }
+    ensures stepped { Stepped S.meaning round.old (marked round.old.number (Some number) (of_slot (slot_of slot.now))) result round.new }
 {
     // A cast: a number of a slot is below 255.
     round
@@ -55,9 +54,7 @@ fn by_move<S: Shelf>(
 /// Lowers peg 1 to the times by way of each move, by rising number.
 fn by_moves<S: Shelf>(round: &mut Round<S>, slots: &[Option<Move>]) -> Result<(), PlanFault>
     requires few { length slots.now ≤ most_slots }
-    ensures made { Made (S.meaning round.old.shelf.now) (by_moves round.old.number 0 (map slot_of slots.now)) result (S.meaning round.new.shelf.now) }
-    ensures number { round.new.number ≡ round.old.number }
-    ensures same_shelf { round.new.shelf.ghost_name ≡ round.old.shelf.ghost_name }
+    ensures stepped { Stepped S.meaning round.old (by_moves round.old.number 0 (map slot_of slots.now)) result round.new }
 {
     for (number, slot) in slots.iter().enumerate() {
         by_move(round, number, slot)?;
@@ -71,9 +68,7 @@ pub(crate) fn one_round<S: Shelf>(
     slots: &[Option<Move>],
 ) -> Result<(), PlanFault>
     requires few { length slots.now ≤ most_slots }
-    ensures made { Made (S.meaning round.old.shelf.now) (the_round round.old.number (map slot_of slots.now)) result (S.meaning round.new.shelf.now) }
-    ensures number { round.new.number ≡ round.old.number }
-    ensures same_shelf { round.new.shelf.ghost_name ≡ round.old.shelf.ghost_name }
+    ensures stepped { Stepped S.meaning round.old (the_round round.old.number (map slot_of slots.now)) result round.new }
 {
     round.cheaper(1, 0, 0)?;
     by_moves(round, slots)

@@ -46,6 +46,7 @@ abbrev pub or_else : Option Step → Option Step → Option Step
 or_else None o = o
 or_else (Some x) o = Some x
 
+-- what overfills first in two lists one after the other; no proof needs it: a law of `first_overfilling` for its reader
 pub overfilling_append : (m : Meaning) (xs ys : List Step) → first_overfilling m (xs ++ ys) ≡ or_else (first_overfilling m xs) (first_overfilling (after_steps m xs) ys)
 overfilling_append m [] ys = refl
 overfilling_append m (x ∷ xs) ys = go (overfills m x.call) (overfilling_append (after_one m x) xs ys)

@@ -36,6 +36,7 @@ pub trait Shelf {
         ensures left { meaning self.new ≡ done (meaning self.old) (a_sum target left right) };
 
     /// Hangs the chart that gives a scene what the source gives once the device is at the setting.
+    // The two apart, as a dial names its device: `Pair` is a part of a move, and shelves know no moves.
     fn put(&mut self, target: u8, source: u8, device: u8, setting: u8) -> Result<(), ShelfFault>
         ensures answer { numbered result ≡ does (meaning self.old) (a_put target source device setting) }
         ensures left { meaning self.new ≡ done (meaning self.old) (a_put target source device setting) };

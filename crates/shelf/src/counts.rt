@@ -27,12 +27,12 @@ pub(crate) fn place(settings: &[u8], scene: &[u8]) -> Result<usize, ShelfFault>
     if scene.len() != settings.len() {
         return Err(ShelfFault::CountsOff);
     }
-    let mut place = 0;
-    for (setting, count) in scene.iter().zip(settings) {
-        if setting >= count {
-            return Err(ShelfFault::SettingHigh);
-        }
-        place = place * usize::from(*count) + usize::from(*setting);
-    }
-    Ok(place)
+    scene
+        .iter()
+        .zip(settings)
+        .try_fold(0, |place, (setting, count)| {
+            (setting < count)
+                .then(|| place * usize::from(*count) + usize::from(*setting))
+                .ok_or(ShelfFault::SettingHigh)
+        })
 }

@@ -7,3 +7,4 @@ pub mod fault;
 pub mod numbers;
 pub mod shape;
 pub mod sides;
+pub mod words;

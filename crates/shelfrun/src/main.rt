@@ -55,6 +55,7 @@ fn main(rt: HostRuntime) -> io::Result<()> {
     let cells = vec![in rt.alloc(); NEVER; 48]?;
     let cells = handed_back(&rt, FlatShelf::open(&[2, 9], cells))?;
     let cells = handed_back(&rt, FlatShelf::open(&[2, 2, 2], cells))?;
+    // A `match`: one end goes on with the shelf, the other prints why there is none and ends well.
     match FlatShelf::open(&[2, 3], cells) {
         Ok(flat) => {
             let mut shelf: Either<FlatShelf, FlatShelf> = Either::Left(flat);

@@ -10,6 +10,7 @@ impl<T: fmt::Display> fmt::Display for Answer<T> {
     fn fmt<W: fmt::Write>(&self, f: &mut fmt::Formatter<W>) -> fmt::Result {
         match &self.0 {
             Ok(answer) => write!(f, "{answer}"),
+            // Not the fault's own words: a line of the run names the refusal by its number.
             Err(fault) => write!(f, "refused {}", fault.number()),
         }
     }

@@ -16,6 +16,7 @@ pub fn call<S: Shelf>(rig: &mut Rig, cue: &mut Cue<S>)
     ensures answer { Answered S.meaning (contents rig.old) cue.old cue.new }
     ensures left { contents rig.new ≡ altered (contents rig.old) cue.old }
 {
+    // By a match: the cues are data that a user hands in, and each case is one call.
     match cue {
         Cue::Add {
             number,

@@ -114,12 +114,10 @@ impl<'a, S: Shelf> Round<'a, S> {
     pub fn lowered(&mut self, slot: &Option<Move>) -> Result<(), Halt>
         ensures took { Took S.meaning self.old (of_slot (slot_of slot.now)) result self.new }
     {
-        match slot {
-            Some(entry) => {
-                self.tried(entry)?;
-                self.cheaper(1, 1, 2)
-            }
-            None => Ok(()),
-        }
+        let Some(entry) = slot else {
+            return Ok(());
+        };
+        self.tried(entry)?;
+        self.cheaper(1, 1, 2)
     }
 }

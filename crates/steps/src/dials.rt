@@ -1,9 +1,9 @@
 //! What the planning rule dials.
-ghost use Rattle.std.specs.Prelude.{◌≡◌, ◌<◌, Some};
-ghost use Rattle.model.specs.Limits.{most_settings};
+ghost use Rattle.std.specs.Prelude.{◌≡◌, Some};
 ghost use Rattle.rule.specs.Steps.{entry, entries, admitted as the_admitted, dearer as the_dearer};
 
 use lists::limits::MOST_SETTINGS;
+use moves::masks::admits;
 use std::array;
 
 /// One entry at a setting, another elsewhere.
@@ -30,10 +30,9 @@ pub(crate) fn dearer(extra: u16, setting: u8) -> [Option<u64>; MOST_SETTINGS]
 
 /// 0 at a setting that a mask admits, never at another.
 fn admitted(mask: u8, setting: u8) -> Option<u64>
-    requires { setting < most_settings }
     ensures { result ≡ the_admitted mask setting }
 {
-    ((mask >> setting) % 2 == 1).then_some(0)
+    admits(mask, setting).then_some(0)
 }
 
 /// 0 at the settings that a mask admits, never elsewhere.

@@ -13,6 +13,7 @@ pub enum PlanFault {
     ShapesDiffer,
     /// The shelf refused a call: its own fault, the call, the round, and the number of the move that was worked on,
     /// if one was.
+    // The fields of a halt and no halt: a caller reads each value by its name, in patterns that a halt inside would break.
     NoRoom {
         fault: ShelfFault,
         call: Hanging,

@@ -31,6 +31,7 @@ fn find_in<E: Entry>(slots: &[Option<E>], e: &E, from: usize, to: usize) -> Opti
     (from..to).find_map(|i| met(slots, e, i))
 }
 
+// From here on clauses say that the slots are a table: by a rule of the project they are lent as a slice, and no type says it of one.
 /// Looks for the entry with the key of `e`, slot by slot from its start, round the slice.
 pub fn find<E: Entry>(slots: &[Option<E>], e: &E) -> Found
     requires { Table E.alike E.initial slots.now }
@@ -71,6 +72,7 @@ pub fn intern<E: Entry>(slots: &mut [Option<E>], e: E) -> Option<usize>
     ensures kept { Kept slots.old slots.new }
     ensures interned { Interned E.alike slots.old slots.new e result }
 {
+    // A `match`: three cases with three answers, and the second writes before it answers.
     match find(slots, &e) {
         Found::At(i) => Some(i),
         Found::Free(i) => {

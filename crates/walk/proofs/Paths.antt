@@ -4,13 +4,12 @@ use Rattle.std.proofs.lemmas.List.{drop_more, drop_all}
 use Rattle.nodes.specs.declared.edge.Edge.{Edge}
 use Rattle.nodes.specs.declared.node.Node.{Node}
 use Rattle.model.specs.Charts.{Time, at, plus, late}
-use Rattle.model.specs.Lists.{some}
 use Rattle.model.specs.Scenes.{Shape, Scene, SceneOf, size, rank}
 use Rattle.model.proofs.Ranks.{rank_less, scene_drop, scene_length, setting_less}
 use Rattle.parts.proofs.Tabulated.{at_piece, get_or_later}
-use Rattle.store.specs.Stores.{none_edge, node_at, chart, Fine}
-use Rattle.build.specs.Builds.{raised, piece, Ready}
-use Rattle.build.proofs.Sides.{never_chart, side_chart, side_piece, side_fine, side_kid_timely, side_timely}
+use Rattle.store.specs.Stores.{none_edge, node_at, chart}
+use Rattle.build.specs.Builds.{raised, Ready, Legal}
+use Rattle.build.proofs.Sides.{never_chart, side_kid, side_legal, side_timely}
 
 -- no time anywhere
 pub walk_never : (nodes : List (Option Node)) (ns : Shape) (s : Scene) (e : Edge) → e.weight ≡ None → None ≡ at ns (chart nodes ns e) s
@@ -23,34 +22,30 @@ walk_end nodes shape l s e w end h = subst (λ (t : Shape). ◌≡◌ {A = Time}
 -- what is known at a step down: the edge has the time w, x is the node that it leads to, and k the scene's setting there
 pub record Step (nodes : List (Option Node)) (shape : Shape) (scene : Scene) (l : ℕ) (e : Edge) (w : ℕ) (x : Node) (k : ℕ) : Type 0 where
   pub ready : Ready nodes shape
-  pub legal : SceneOf shape scene
+  pub shaped : SceneOf shape scene
   pub depth : l < length shape
-  pub fine : Fine nodes (drop l shape) l e
-  pub timely : some late (chart nodes (drop l shape) e) ≡ false
+  pub legal : Legal nodes shape l e
   pub weight : e.weight ≡ Some w
   pub here : x ≡ node_at nodes e.child
   pub setting : k ≡ get_or scene l 0
 
 module _ {nodes : List (Option Node)} {shape : Shape} {scene : Scene} {l : ℕ} {e : Edge} {w : ℕ} {x : Node} {k : ℕ} (s : Step nodes shape scene l e w x k) where
   step_low : k < get_or shape l 0
-  step_low = subst (λ j. j < get_or shape l 0) (sym s.setting) (setting_less shape scene l s.legal s.depth)
+  step_low = subst (λ j. j < get_or shape l 0) (sym s.setting) (setting_less shape scene l s.shaped s.depth)
 
   step_within : l < length scene
-  step_within = omega (arith, scene_length shape scene s.legal, s.depth)
+  step_within = omega (arith, scene_length shape scene s.shaped, s.depth)
 
   -- one of the eight edges of a node
   pub step_eight : k < 8
   step_eight = omega (arith, s.ready.few l, step_low)
 
   pub step_raise : late (plus (Some w) (get_or x.edges k none_edge).weight) ≡ false
-  step_raise = side_timely nodes shape s.ready.store l s.depth e w x s.fine s.weight s.here k step_low s.timely
+  step_raise = side_timely nodes shape s.ready.store l s.depth e w x s.legal.fine s.weight s.here k step_low s.legal.timely
 
   module _ (kid : Edge) (is : kid ≡ raised (Some w) (get_or x.edges k none_edge)) where
-    pub step_fine : Fine nodes (drop (l + 1) shape) (l + 1) kid
-    step_fine = subst (Fine nodes (drop (l + 1) shape) (l + 1)) (sym is) (side_fine nodes shape s.ready.store l s.depth e w x s.fine s.weight s.here k step_low)
-
-    pub step_timely : some late (chart nodes (drop (l + 1) shape) kid) ≡ false
-    step_timely = ap (λ d. some late (chart nodes (drop (l + 1) shape) d)) is ∙ side_kid_timely nodes shape s.ready.store l s.depth e w x s.fine s.weight s.here k step_low s.timely
+    pub step_legal : Legal nodes shape (l + 1) kid
+    step_legal = subst (Legal nodes shape (l + 1)) (sym is) (side_legal nodes shape s.ready.store l s.depth e w x s.legal.fine s.weight s.here k step_low s.legal.timely)
 
     pub step_value : at (drop (l + 1) shape) (chart nodes (drop (l + 1) shape) kid) (drop (l + 1) scene) ≡ at (drop l shape) (chart nodes (drop l shape) e) (drop l scene)
     step_value =
@@ -60,8 +55,8 @@ module _ {nodes : List (Option Node)} {shape : Shape} {scene : Scene} {l : ℕ} 
         let c = chart nodes (drop l shape) e in
         let p = drop_more shape l 0 s.depth in
         let q = drop_more scene l 0 step_within in
-        let r : rank ns rest < size ns = rank_less ns rest (scene_drop (l + 1) shape scene s.legal) in
-        ap (λ d. get_or d (rank ns rest) None) (ap (chart nodes ns) is ∙ sym (side_piece nodes shape s.ready.store l s.depth e w x s.fine s.weight s.here k step_low) ∙ ap (λ d. piece shape l d k) (sym (side_chart nodes shape s.ready.store l s.depth e w x s.fine s.weight s.here)))
+        let r : rank ns rest < size ns = rank_less ns rest (scene_drop (l + 1) shape scene s.shaped) in
+        ap (λ d. get_or d (rank ns rest) None) (ap (chart nodes ns) is ∙ sym (side_kid nodes shape s.ready.store l s.depth e w x s.legal.fine s.weight s.here k step_low))
         ∙ sym (at_piece n (size ns) k (rank ns rest) c step_low r)
         ∙ ap (λ j. get_or c (j * size ns + rank ns rest) None) s.setting
         ∙ sym (λ i. at (p i) c (q i))

@@ -1,11 +1,11 @@
 //! The entry of a scene: one path from an edge down to the terminal.
 #![tactic(auto)]
 
-ghost use Rattle.std.specs.Prelude.{◌≡◌, ◌≤◌, false, length, drop};
-ghost use Rattle.model.specs.Charts.{at, late};
-ghost use Rattle.model.specs.Lists.{some};
+ghost use Rattle.std.specs.Prelude.{◌≡◌, ◌≤◌, length, drop};
+ghost use Rattle.model.specs.Charts.{at};
 ghost use Rattle.model.specs.Scenes.{SceneOf};
-ghost use Rattle.store.specs.Stores.{chart, Fine};
+ghost use Rattle.store.specs.Stores.{chart};
+ghost use Rattle.build.specs.Builds.{Legal};
 ghost use Rattle.build.specs.Grew.{nodes_in, shape_in};
 
 use build::node_store::NodeStore;
@@ -16,8 +16,7 @@ use nodes::edge::Edge;
 pub fn walk(store: &NodeStore, scene: &[u8], level: usize, e: Edge) -> Option<u64>
     requires depth { level ≤ length (shape_in store.now) }
     requires scene { SceneOf (shape_in store.now) scene.now }
-    requires fine { Fine (nodes_in store.now) (drop level (shape_in store.now)) level e }
-    requires timely { some late (chart (nodes_in store.now) (drop level (shape_in store.now)) e) ≡ false }
+    requires legal { Legal (nodes_in store.now) (shape_in store.now) level e }
     ensures value { result ≡ at (drop level (shape_in store.now)) (chart (nodes_in store.now) (drop level (shape_in store.now)) e) (drop level scene.now) }
 {
     let w = e.weight?;

@@ -35,7 +35,7 @@ fn report(
 ) -> anyhow::Result<()> {
     let verdict = Verdict::from(reply);
     println!(rt; "{verdict}")?;
-    if let Verdict::Way { moves, .. } = verdict {
+    if let Verdict::Planned(Plan::Way { moves, .. }) = verdict {
         let moves = sheet
             .get(0..moves)
             .context("the sheet is shorter than the plan")?;

@@ -8,6 +8,7 @@ use hang::task::Task;
 use lists::limits::PEGS;
 use shelf::fault::ShelfFault;
 
+// A peg is a number below the count by a clause: a type for it would say no more, and each caller would make one.
 impl DiagramShelf {
     /// Whether a peg is bare.
     pub(crate) fn bare(&self, peg: usize) -> bool

@@ -21,8 +21,8 @@ turn t c =
     let all : v ≡ l + 1 + (v - (l + 1)) = omega (arith, below) in
     record {
       depth = omega (arith, below, c.requires.depth);
-      long = lifted_long shape (v - (l + 1)) (l + 1) top (omega (arith, all, c.requires.depth)) ((knows (nodes_in old) shape old.ready.store (drop v shape) v c.args.e refl c.requires.fine).long ∙ ap (λ j. size (drop j shape)) all);
-      timely = lifted_timely shape (v - (l + 1)) (l + 1) top c.requires.timely;
+      long = lifted_long shape (v - (l + 1)) (l + 1) top (omega (arith, all, c.requires.depth)) ((knows (nodes_in old) shape old.ready.store (drop v shape) v c.args.e refl c.requires.legal.fine).long ∙ ap (λ j. size (drop j shape)) all);
+      timely = lifted_timely shape (v - (l + 1)) (l + 1) top c.requires.legal.timely;
       is = ap (λ k. lifted shape l k top) more;
       grew = c.lift.ensures.grew;
     }
@@ -39,7 +39,7 @@ returns-then-level-from t c =
     let none : 0 ≡ v - l = omega (arith, same) in
     record {
       grew = grew_none old l (lifted shape l (v - l) top);
-      built = (subst (λ j. Fine nodes (drop j shape) j c.args.e) (sym same) c.requires.fine, ap (λ j. chart nodes (drop j shape) c.args.e) same ∙ ap (λ k. lifted shape l k top) none);
+      built = (subst (λ j. Fine nodes (drop j shape) j c.args.e) (sym same) c.requires.legal.fine, ap (λ j. chart nodes (drop j shape) c.args.e) same ∙ ap (λ k. lifted shape l k top) none);
     }
 
 pub returns-in_err-kid : goal.returns-in_err-kid

@@ -3,7 +3,7 @@ use Rattle.build.specs.Grew.{nodes_in, shape_in}
 use Rattle.build.proofs.Grown.{grew_none}
 use Rattle.dials.specs.Flats.{flat}
 use Rattle.dials.proofs.Turns.{flat_long, flat_timely, flat_leaf}
-use Rattle.dials.proofs.Lifts.{Lift, flat_lifted, lift_timely, lift_grew, lift_built}
+use Rattle.dials.proofs.Lifts.{Lift, flat_lifted, lift_legal, lift_grew, lift_built}
 use Rattle.dials.proofs.constant.Goals.{After-devices-devices}
 use Rattle.dials.proofs.constant.Goals as goal
 
@@ -23,10 +23,10 @@ leaf c =
       grew = grew_none old v (flat (drop v shape) c.args.entry);
     }
 
-pub lift-requires-clause-timely : goal.lift-requires-clause-timely
-lift-requires-clause-timely c =
+pub lift-requires-clause-legal : goal.lift-requires-clause-legal
+lift-requires-clause-legal c =
     let old = c.args.store.now in
-    lift_timely (leaf (goal.at.lift-requires-clause-timely c).After-devices-devices) (record { weight = c.args.entry; child = 0 }) (flat_leaf (nodes_in old) (shape_in old) c.devices-devices.result c.args.entry c.devices-devices.ensures.value)
+    lift_legal (leaf (goal.at.lift-requires-clause-legal c).After-devices-devices) (record { weight = c.args.entry; child = 0 }) (flat_leaf (nodes_in old) (shape_in old) c.devices-devices.result c.args.entry c.devices-devices.ensures.value)
 
 pub returns : goal.returns
 returns c =

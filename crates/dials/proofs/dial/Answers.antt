@@ -3,7 +3,7 @@ use Rattle.model.specs.Charts.{dialled, late}
 use Rattle.model.specs.Lists.{some}
 use Rattle.build.specs.Grew.{shape_in}
 use Rattle.dials.proofs.Turns.{dial_long, dial_timely}
-use Rattle.dials.proofs.Lifts.{Lift, dial_lifted, lift_early, lift_none, lift_fine, lift_timely, lift_grew, lift_built}
+use Rattle.dials.proofs.Lifts.{Lift, dial_lifted, lift_early, lift_none, lift_legal, lift_grew, lift_built}
 use Rattle.dials.proofs.dial.Goals.{After-fan}
 use Rattle.dials.proofs.dial.Goals as goal
 
@@ -30,11 +30,8 @@ returns-in_err-fanned c =
       built = lift_none s c.from_residual.result c.from_residual.ensures c.in_err-fanned.ensures.built;
     }
 
-pub lift-requires-clause-fine : goal.lift-requires-clause-fine
-lift-requires-clause-fine c = lift_fine (fanned (goal.at.lift-requires-clause-fine c).After-fan) c.in_ok-fanned.fanned c.in_ok-fanned.ensures.built
-
-pub lift-requires-clause-timely : goal.lift-requires-clause-timely
-lift-requires-clause-timely c = lift_timely (fanned (goal.at.lift-requires-clause-timely c).After-fan) c.in_ok-fanned.fanned c.in_ok-fanned.ensures.built
+pub lift-requires-clause-legal : goal.lift-requires-clause-legal
+lift-requires-clause-legal c = lift_legal (fanned (goal.at.lift-requires-clause-legal c).After-fan) c.in_ok-fanned.fanned c.in_ok-fanned.ensures.built
 
 pub returns : goal.returns
 returns c =

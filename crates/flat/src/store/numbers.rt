@@ -19,6 +19,7 @@ pub(crate) fn peg_of(number: u8) -> Result<Peg, ShelfFault>
     ensures { MatchResult result (λ p. p.number ≡ number) (High ShelfFault.PegHigh peg_count number) }
 {
     let peg = usize::from(number);
+    // Not `then` and `ok_or`: the closure that makes a peg would ask once more, by a clause of its own, that it is low.
     if peg < PEGS {
         Ok(Peg { number: peg })
     } else {
@@ -32,11 +33,9 @@ impl FlatShelf {
         ensures { MatchResult result (Names (length (shape_of self.now.shape)) number) (High ShelfFault.DeviceHigh (length (shape_of self.now.shape)) number) }
     {
         let device = usize::from(number);
-        if device < self.shape.devices() {
-            Ok(device)
-        } else {
-            Err(ShelfFault::DeviceHigh)
-        }
+        (device < self.shape.devices())
+            .then_some(device)
+            .ok_or(ShelfFault::DeviceHigh)
     }
 
     /// The peg of a number, where a chart hangs on it.
@@ -44,11 +43,9 @@ impl FlatShelf {
         ensures { MatchResult result (λ p. Hangs self.now.hung number p.number) (NoChart self.now.hung number) }
     {
         let peg = peg_of(number)?;
-        if self.hung[peg.number] {
-            Ok(peg)
-        } else {
-            Err(ShelfFault::PegBare)
-        }
+        self.hung[peg.number]
+            .then_some(peg)
+            .ok_or(ShelfFault::PegBare)
     }
 
     /// The pegs of two numbers, where charts hang on both.
@@ -58,10 +55,8 @@ impl FlatShelf {
     {
         let left = peg_of(left)?;
         let right = peg_of(right)?;
-        if self.hung[left.number] && self.hung[right.number] {
-            Ok((left, right))
-        } else {
-            Err(ShelfFault::PegBare)
-        }
+        (self.hung[left.number] && self.hung[right.number])
+            .then_some((left, right))
+            .ok_or(ShelfFault::PegBare)
     }
 }

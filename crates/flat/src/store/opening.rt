@@ -6,6 +6,8 @@ ghost use Rattle.flat.specs.Openings.{number as the_number, Opened};
 use crate::store::FlatShelf;
 use lists::limits::PEGS;
 use shelf::shape::Shape;
+use std::error::Error;
+use std::fmt;
 
 /// Why a flat shelf does not open.
 #[derive(Clone, Copy, PartialEq, Eq, Debug)]
@@ -23,9 +25,28 @@ impl OpenFault {
     {
         self as u8
     }
+
+    /// What was wrong.
+    fn words(&self) -> &'static str {
+        match self {
+            OpenFault::CountsOff => "a shelf has 1 to 12 devices of 2 to 8 settings",
+            OpenFault::MemoryShort => "the memory has no cell for each scene and peg",
+        }
+    }
 }
 
+impl fmt::Display for OpenFault {
+    fn fmt<W: fmt::Write>(&self, f: &mut fmt::Formatter<W>) -> fmt::Result {
+        let number = self.number();
+        let words = self.words();
+        write!(f, "refused {number}: {words}")
+    }
+}
+
+impl Error for OpenFault {}
+
 /// A refusal to open, with the memory as it was handed over.
+// A rig has one too, with a table of slots: a type for both, in a crate below both, would not name what is handed back.
 #[derive(Drop)]
 pub struct Unopened {
     pub fault: OpenFault,

@@ -1,9 +1,9 @@
-use Rattle.std.proofs.Common.{◌<◌, ℕ, length, get_or, Some, None, sym, ap, ◌∙◌, subst, arith}
+use Rattle.std.proofs.Common.{◌<◌, ℕ, length, get_or, Some, None, refl, sym, ap, ◌∙◌, subst, arith}
 use Rattle.model.specs.Charts.{Chart}
 use Rattle.build.specs.Grew.{nodes_in, shape_in, MadeIn}
 use Rattle.build.proofs.Grown.{grew_none}
-use Rattle.puts.proofs.Putting.{Side, put_skipped, there_raise, there_spreadable, there_is, rest_fine, rest_timely, rest_grew, rest_stuck, raised_timely, raised_stands}
-use Rattle.puts.proofs.Kids.{Below, Way, next_fine, next_timely, put_grew, put_stuck, put_more, put_makeable, made_grew, made_built, made_right}
+use Rattle.puts.proofs.Putting.{Side, put_skipped, there_raise, there_spreadable, there_is, rest_legal, rest_grew, rest_stuck, raised_timely, raised_stands}
+use Rattle.puts.proofs.Kids.{Below, Way, next_legal, put_grew, put_stuck, put_more, put_makeable, made_grew, made_built, made_right}
 use Rattle.puts.proofs.+putting.Goals.{put-After-from, put_below-At-loop-i}
 use Rattle.puts.proofs.+putting.Goals as goal
 
@@ -11,9 +11,8 @@ side : (t : ℕ) (c : put-After-from t) → Side c.args.diagrams.now.store c.arg
 side t c = record {
   above = c.requires.above;
   depth = c.requires.depth;
+  setting = c.requires.setting;
   legal = c.requires.legal;
-  fine = c.requires.fine;
-  timely = c.requires.timely;
   weight = c.in-Some.is;
 }
 
@@ -22,7 +21,7 @@ put-returns-in_default t c =
     let old = c.args.diagrams.now.store in
     record {
       grew = grew_none old c.args.level _;
-      built = put_skipped (nodes_in old) (shape_in old) old.ready.store c.args.level c.args.device c.args.setting c.args.e c.in_default.is c.requires.fine;
+      built = put_skipped (nodes_in old) (shape_in old) old.ready.store c.args.level c.args.device c.args.setting c.args.e c.in_default.is c.requires.legal.fine;
     }
 
 -- at the device
@@ -46,7 +45,7 @@ pub put-put_below-requires : goal.put-put_below-requires
 put-put_below-requires t c =
     let s = side t (goal.at.put-put_below-requires t c).After-from in
     let below : c.args.level < c.args.device = omega (arith, c.requires.above, c.if-level-from.false, c.from.ensures) in
-    (omega arith, (below, (c.requires.depth, (c.requires.legal, (rest_fine s, rest_timely s)))))
+    (omega arith, (below, (c.requires.depth, (c.requires.setting, rest_legal s))))
 
 pub put-returns-in_err-rest : goal.put-returns-in_err-rest
 put-returns-in_err-rest t c =
@@ -70,7 +69,10 @@ put-returns t c =
 -- kid by kid
 
 below : (t : ℕ) (c : put_below-At-loop-i t) → Below c.args.diagrams.now.store c.args.level c.args.device c.args.setting c.args.child
-below t c = record { below = c.requires.above; depth = c.requires.depth; legal = c.requires.legal; fine = c.requires.fine; timely = c.requires.timely }
+below t c = record {
+  below = c.requires.above;
+  side = record { above = omega (arith, c.requires.above); depth = c.requires.depth; setting = c.requires.setting; legal = c.requires.legal; weight = refl };
+}
 
 way : (t : ℕ) (c : put_below-At-loop-i t) → Way c.args.diagrams.now.store c.loop-i.diagrams.store c.args.level c.args.device c.args.setting c.args.child c.count-count.result c.loop-i.i c.loop-i.kids
 way t c = record { begun = c.loop-i.invariant; count = c.count-count.ensures.value }
@@ -86,8 +88,8 @@ put_below-put-requires t c =
         (
           subst (λ u. c.args.device < length u) same c.requires.depth,
           (
-            subst (λ u. c.args.setting < get_or u c.args.device 0) same c.requires.legal,
-            (next_fine s c.node_at-node.ensures.value p c.loop-i-test.true, next_timely s c.node_at-node.ensures.value p c.loop-i-test.true),
+            subst (λ u. c.args.setting < get_or u c.args.device 0) same c.requires.setting,
+            next_legal s c.node_at-node.ensures.value p c.loop-i-test.true,
           ),
         ),
       ),

@@ -1,17 +1,16 @@
 use Rattle.std.proofs.Common.{ℕ, drop, ◌∙◌, arith, rules}
 use Rattle.model.proofs.Ranks.{scene_length}
 use Rattle.build.specs.Grew.{nodes_in, shape_in}
-use Rattle.walk.proofs.Paths.{Step, walk_never, walk_end, step_eight, step_raise, step_fine, step_timely, step_value}
+use Rattle.walk.proofs.Paths.{Step, walk_never, walk_end, step_eight, step_raise, step_legal, step_value}
 use Rattle.walk.proofs.+walk.Goals.{After-from}
 use Rattle.walk.proofs.+walk.Goals as goal
 
 step : (t : ℕ) (c : After-from t) → Step (nodes_in c.args.store.now) (shape_in c.args.store.now) c.args.scene.now c.args.level c.args.e c.in_ok-w.w c.node_at-node.result c.from.result
 step t c = record {
   ready = c.args.store.now.ready;
-  legal = c.requires.scene;
+  shaped = c.requires.scene;
   depth = search rules;
-  fine = c.requires.fine;
-  timely = c.requires.timely;
+  legal = c.requires.legal;
   weight = c.in_ok-w.was;
   here = c.node_at-node.ensures.value;
   setting = c.from.ensures;
@@ -35,7 +34,7 @@ raise-requires t c = step_raise (step t (goal.at.raise-requires t c).After-from)
 pub walk-requires : goal.walk-requires
 walk-requires t c =
     let s = step t (goal.at.walk-requires t c).After-from in
-    (search rules, (omega (arith, s.depth), (c.requires.scene, (step_fine s c.raise.result c.raise.ensures, step_timely s c.raise.result c.raise.ensures))))
+    (search rules, (omega (arith, s.depth), (c.requires.scene, step_legal s c.raise.result c.raise.ensures)))
 
 pub returns : goal.returns
 returns t c =

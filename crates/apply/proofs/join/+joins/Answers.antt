@@ -12,30 +12,30 @@ use Rattle.apply.proofs.join.+joins.Goals as goal
 pub join-returns-in_default : goal.join-returns-in_default
 join-returns-in_default t c =
     let store = c.args.diagrams.now.store in
-    record { grew = grew_none store c.args.level _; built = answer_left c.args.op (nodes_in store) (shape_in store) store.ready.store c.args.level c.args.a c.args.b c.skip.result c.in_default.is c.requires.joinable.left c.requires.joinable.right c.skip.ensures }
+    record { grew = grew_none store c.args.level _; built = answer_left c.args.op (nodes_in store) (shape_in store) store.ready.store c.args.level c.args.a c.args.b c.skip.result c.in_default.is c.requires.joinable.left.fine c.requires.joinable.right.fine c.skip.ensures }
 
 pub join-returns-in_default-weight : goal.join-returns-in_default-weight
 join-returns-in_default-weight t c =
     let store = c.args.diagrams.now.store in
-    record { grew = grew_none store c.args.level _; built = answer_right c.args.op (nodes_in store) (shape_in store) store.ready.store c.args.level c.args.a c.args.b c.skip-in_default-weight.result c.in_default-weight.is c.requires.joinable.left c.requires.joinable.right c.skip-in_default-weight.ensures }
+    record { grew = grew_none store c.args.level _; built = answer_right c.args.op (nodes_in store) (shape_in store) store.ready.store c.args.level c.args.a c.args.b c.skip-in_default-weight.result c.in_default-weight.is c.requires.joinable.left.fine c.requires.joinable.right.fine c.skip-in_default-weight.ensures }
 
 pub join-split-weights-requires : goal.join-split-weights-requires
 join-split-weights-requires t c =
     let store = c.args.diagrams.now.store in
     record {
-      left = ap late (sym c.in-Some.is) ∙ weight_timely (nodes_in store) (shape_in store) store.ready.store c.args.level c.args.a c.requires.joinable.left c.requires.joinable.left_timely;
-      right = ap late (sym c.in-Some-weight.is) ∙ weight_timely (nodes_in store) (shape_in store) store.ready.store c.args.level c.args.b c.requires.joinable.right c.requires.joinable.right_timely;
+      left = ap late (sym c.in-Some.is) ∙ weight_timely (nodes_in store) (shape_in store) store.ready.store c.args.level c.args.a c.requires.joinable.left.fine c.requires.joinable.left.timely;
+      right = ap late (sym c.in-Some-weight.is) ∙ weight_timely (nodes_in store) (shape_in store) store.ready.store c.args.level c.args.b c.requires.joinable.right.fine c.requires.joinable.right.timely;
     }
 
 pub join-returns-then-level-devices : goal.join-returns-then-level-devices
 join-returns-then-level-devices t c =
     let store = c.args.diagrams.now.store in
-    record { grew = grew_none store c.args.level _; built = answer_leaf c.args.op (nodes_in store) (shape_in store) c.args.level c.args.a c.args.b c.in-Some.weight_a c.in-Some-weight.weight_b c.split-weights.result (c.if-level-devices.true ∙ c.devices.ensures.value) c.in-Some.is c.in-Some-weight.is c.split-weights.ensures c.requires.joinable.left }
+    record { grew = grew_none store c.args.level _; built = answer_leaf c.args.op (nodes_in store) (shape_in store) c.args.level c.args.a c.args.b c.in-Some.weight_a c.in-Some-weight.weight_b c.split-weights.result (c.if-level-devices.true ∙ c.devices.ensures.value) c.in-Some.is c.in-Some-weight.is c.split-weights.ensures c.requires.joinable.left.fine }
 
 pub join-returns-then-a-b : goal.join-returns-then-a-b
 join-returns-then-a-b t c =
     let store = c.args.diagrams.now.store in
-    record { grew = grew_none store c.args.level _; built = answer_same c.args.op (nodes_in store) (shape_in store) c.args.level c.args.a c.args.b c.in-Some.weight_a c.in-Some-weight.weight_b c.split-weights.result (search rules) c.if-a-b.true c.in-Some.is c.in-Some-weight.is c.split-weights.ensures c.requires.joinable.left }
+    record { grew = grew_none store c.args.level _; built = answer_same c.args.op (nodes_in store) (shape_in store) c.args.level c.args.a c.args.b c.in-Some.weight_a c.in-Some-weight.weight_b c.split-weights.result (search rules) c.if-a-b.true c.in-Some.is c.in-Some-weight.is c.split-weights.ensures c.requires.joinable.left.fine }
 
 pub join-join_nodes-requires : goal.join-join_nodes-requires
 join-join_nodes-requires t c =
@@ -81,8 +81,8 @@ pub join_nodes-remember-requires : goal.join_nodes-remember-requires
 join_nodes-remember-requires t c =
     let pair = pair_of c.args.op c.args.diagrams.now.store c.args.level c.args.x c.args.y c.requires.depth c.requires.joinable in
     let got = c.in_ok-result.ensures in
-    let p = sym c.edge.ensures in
-    let q = sym c.edge-2.ensures in
+    let p = sym c.from.ensures in
+    let q = sym c.from-2.ensures in
     let new = c.make.new.self.store in
     record { right = coe 0 1 (i. Right (nodes_in new) (shape_in new) (record { operation = Join c.args.op; level = c.args.level; left = p i; right = q i }) c.in_ok-result.result) (join_right pair c.in_ok-kids.ensures got.grew c.in_ok-result.result got.built) }
 

@@ -1,20 +1,18 @@
-use Rattle.std.proofs.Common.{arith}
-use Rattle.std.proofs.lemmas.List.{length-append}
-use Rattle.shelf.proofs.Placing.{placed_turn}
+use Rattle.std.proofs.Common.{◌<◌, ◌+◌, ◌*◌, ◌^◌, rules}
+use Rattle.shelf.proofs.Placing.{fits, answered}
 use Rattle.shelf.proofs.counts.place.Goals as goal
 
-pub overflow_mul-place : goal.overflow_mul-place
-overflow_mul-place c =
-    let turn = placed_turn c.args.settings.now c.requires.few c.requires.legal c.args.scene.now _ c.into_iter-setting-iterator.result c.loop-setting.setting-iterator c.next.new.self (c.in-Some.setting, c.in-Some.count) c.loop-setting.yielded_by c.in-Some.is c.next.ensures.steps c.loop-setting.place c.if-setting-count.false c.loop-setting.invariant.4 (cc) (cc) in
-    rw c.from.ensures (omega (arith, turn.most))
+pub try_fold-requires-clause-callable : goal.try_fold-requires-clause-callable
+try_fold-requires-clause-callable c =
+    record {
+      at = λ zs t q z u y f e.
+          let room : z.0.now < z.1.now → q.1 * z.1.now + z.0.now < 8 ^ 12 = fits _ (λ p x v k. search rules) c.args.settings.now c.requires.few c.requires.legal c.args.scene.now c.if-scene-settings.false c.zip.result (cc) (cc) zs t u _ q y f z e in
+          search (rules, room);
+    }
 
-pub overflow_add-place : goal.overflow_add-place
-overflow_add-place c =
-    let turn = placed_turn c.args.settings.now c.requires.few c.requires.legal c.args.scene.now _ c.into_iter-setting-iterator.result c.loop-setting.setting-iterator c.next.new.self (c.in-Some.setting, c.in-Some.count) c.loop-setting.yielded_by c.in-Some.is c.next.ensures.steps c.loop-setting.place c.if-setting-count.false c.loop-setting.invariant.4 (cc) (cc) in
-    rw (c.from.ensures, c.from-in-loop-setting.ensures) (omega (arith, turn.most))
-
-pub loop-setting-preserved : goal.loop-setting-preserved
-loop-setting-preserved c =
-    let turn = placed_turn c.args.settings.now c.requires.few c.requires.legal c.args.scene.now _ c.into_iter-setting-iterator.result c.loop-setting.setting-iterator c.next.new.self (c.in-Some.setting, c.in-Some.count) c.loop-setting.yielded_by c.in-Some.is c.next.ensures.steps c.loop-setting.place c.if-setting-count.false c.loop-setting.invariant.4 (cc) (cc) in
-    let more = turn.more _ (length-append c.loop-setting.yielded _) c.loop-setting.invariant.2 c.loop-setting.invariant.3 in
-    rw (c.from.ensures, c.from-in-loop-setting.ensures) ((tt, tt), tt, more.0, more.1, more.2)
+pub returns : goal.returns
+returns c =
+    let ran = c.try_fold.ensures.ran in
+    record {
+      answer = answered _ (λ p x v k. search rules) c.args.settings.now c.requires.few c.requires.legal c.args.scene.now c.if-scene-settings.false c.zip.result (cc) (cc) ran.0 ran.4.0 c.try_fold.new.self _ (ran.2, ran.3) ran.4.1 ran.5 _ _ ran.1 c.try_fold.result ran.4.2 ran.6 (λ k. search rules) (λ z k. search rules);
+    }

@@ -14,7 +14,7 @@ invariant_of-self g c =
     let s = c.args.self.now in
     let got = c.in_ok-e.ensures in
     rw got.pegs (record {
-      as_many = length-set s.pegs c.args.target _ ∙ s.as_many;
+      as_many = length-set s.pegs _ _ ∙ s.as_many;
       held = try_held s.held got.made.grew c.in_ok-e.e got.made.built (made_timely s.diagrams.store s.pegs c.args.task s.held c.requires.allowed) c.args.target;
     })
 

@@ -9,8 +9,8 @@ loop-point-init g c =
 
 pub loop-point-preserved : goal.loop-point-preserved
 loop-point-preserved g c =
-    way_on (contents c.args.self.now.rig.now) (g.S.Shelf.meaning c.args.self.now.shelf.now) c.args.self.now.rig.now.lawful c.args.time c.args.sheet.now c.loop-point.point c.loop-point.moves c.loop-point.sheet c.note.new.sheet c.next_stride-stride.result
-    c.loop-point.invariant c.next_stride-stride.ensures.strides c.note.ensures
+    way_on (contents c.args.self.now.rig.now) (g.S.Shelf.meaning c.args.self.now.shelf.now) c.args.self.now.rig.now.lawful c.args.time c.args.sheet.now c.loop-point.point c.loop-point.moves c.loop-point.sheet c.set_in.new.items c.next_stride-stride.result
+    c.loop-point.invariant c.next_stride-stride.ensures.strides c.set_in.ensures
 
 pub returns : goal.returns
 returns g c =

@@ -1,7 +1,7 @@
 use Rattle.std.proofs.Common.{ℕ, ◌%◌, ◌^◌, ◌<◌, ◌≤◌, eqb, sym, ap, ◌∙◌, arith, pow_mono}
 use native.Mathlib.Nat.{div-eq_of_lt}
 use Rattle.std.proofs.lemmas.Bool.{le-ltb}
-use Rattle.rig.proofs.masks.is_admitted.Goals as goal
+use Rattle.moves.proofs.masks.admits.Goals as goal
 
 pub returns-else-setting-lt8 : goal.returns-else-setting-lt8
 returns-else-setting-lt8 c =

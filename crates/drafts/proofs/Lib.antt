@@ -1,0 +1,2 @@
+-- The sum of extras as a fold: Adding
+pub mod Adding
