@@ -1,5 +1,5 @@
 -- The calls of a flat shelf: when they are refused, and what they leave. Assumes nothing.
-use Rattle.std.proofs.Common.{◌≡◌, ℕ, ◌<◌, ◌≤◌, Bool, true, false, ◌&&◌, ◌||◌, ltb, leb, ◌⊎◌, List, [], ◌∷◌, length, get_or, take, None, Ok, Err, Result, IsErrAnd, vec_items, sym, refl, ap, ◌∙◌, ap₂, inl, inr, arith}
+use Rattle.std.proofs.Common.{not, ◌≡◌, ℕ, ◌<◌, ◌≤◌, Bool, true, false, ◌&&◌, ◌||◌, ltb, leb, ◌⊎◌, List, [], ◌∷◌, length, get_or, take, None, Ok, Err, Result, IsErrAnd, vec_items, sym, refl, ap, ◌∙◌, ap₂, inl, inr, arith}
 use Rattle.std.specs.List.{AllByRecursion}
 use Rattle.std.proofs.lemmas.Result.{err_from_is_err_and}
 use Rattle.std.proofs.lemmas.Bool.{or_left, or_right, or_from, and_right, lt-leb, le-leb}
@@ -16,24 +16,11 @@ use Rattle.shelf.specs.Shapes.{shape_of}
 use Rattle.shelf.specs.declared.fault.ShelfFault.{ShelfFault}
 use Rattle.flat.specs.Rows.{row, flat}
 use Rattle.flat.specs.declared.store.FlatShelf.{FlatShelf}
-use Rattle.flat.specs.declared.store.numbers.Peg.{Peg}
+use Rattle.shelf.specs.declared.numbers.Peg.{Peg}
 use Rattle.flat.specs.Means.{means, row_of, hanging}
-use Rattle.flat.specs.Numbers.{Names, Hangs, NoCharts}
+use Rattle.shelf.specs.Numbers.{Names, Hangs}
+use Rattle.shelf.proofs.Calling.{low_peg, low_pegs, all_low, none_bare, compares_charts, Answered}
 use Rattle.flat.specs.Hanging.{bare_at, row_on, sound_of}
-
-pub low_peg : (p : ℕ) → p < 8 → high p ≡ false
-low_peg p h = lt-leb 8 p h
-
-pub low_pegs : (l r : ℕ) → l < 8 → r < 8 → (high l || high r) ≡ false
-low_pegs l r hl hr = or_from (high l) (high r) (low_peg l hl) (low_peg r hr)
-
-pub all_low : (t l r : ℕ) → t < 8 → l < 8 → r < 8 → (high t || (high l || high r)) ≡ false
-all_low t l r ht hl hr = or_from (high t) (high l || high r) (low_peg t ht) (low_pegs l r hl hr)
-
--- a peg number that is too high, of two
-one_high : (l r : ℕ) → (8 ≤ l) ⊎ (8 ≤ r) → (high l || high r) ≡ true
-one_high l r (inl h) = or_left (high l) (high r) (le-leb 8 l h)
-one_high l r (inr h) = or_right (high l) (high r) (le-leb 8 r h)
 
 -- the place of a scene that passes its checks
 pub placed : (ns : Shape) (s : Scene) (k : ℕ) → Ok k ≡ answer (scene_checks ns s) (rank ns s) → (k ≡ rank ns s) × (k < size ns)
@@ -46,41 +33,27 @@ module _ (ns : Shape) (cells : List Time) (hung : List Bool) where
   abbrev m : Meaning
   m = flat ns cells hung
 
+  pub tells : (p : ℕ) → p < 8 → bare m.pegs p ≡ not (get_or hung p false)
+  tells p h = bare_at ns cells hung p h (get_or hung p false) refl
+
   -- Two pegs to be read
   module _ (l r : ℕ) (hl : l < 8) (hr : r < 8) where
-    pub one_bare : (get_or hung l false ≡ false) ⊎ (get_or hung r false ≡ false) → (bare m.pegs l || bare m.pegs r) ≡ true
-    one_bare (inl e) = or_left (bare m.pegs l) (bare m.pegs r) (bare_at ns cells hung l hl false e)
-    one_bare (inr e) = or_right (bare m.pegs l) (bare m.pegs r) (bare_at ns cells hung r hr false e)
-
-    pub none_bare : get_or hung l false ≡ true → get_or hung r false ≡ true → (bare m.pegs l || bare m.pegs r) ≡ false
-    none_bare el er = or_from (bare m.pegs l) (bare m.pegs r) (bare_at ns cells hung l hl true el) (bare_at ns cells hung r hr true er)
-
-    pub compares_bare : (get_or hung l false ≡ false) ⊎ (get_or hung r false ≡ false) → compares m l r ≡ Err 15
-    compares_bare b = refuses (refuse 14 (high l || high r) ∷ []) 15 (bare m.pegs l || bare m.pegs r) [] _ (low_pegs l r hl hr, tt) (one_bare b)
-
     module _ (el : get_or hung l false ≡ true) (er : get_or hung r false ≡ true) where
       same_rows : compares m l r ≡ Ok (same_chart (row cells (size ns) l) (row cells (size ns) r))
       same_rows =
-          accepts (refuse 14 (high l || high r) ∷ refuse 15 (bare m.pegs l || bare m.pegs r) ∷ []) _ (low_pegs l r hl hr, (none_bare el er, tt))
+          compares_charts m hung tells l r hl hr el er
           ∙ ap Ok (ap₂ same_chart (row_on ns cells hung l hl el) (row_on ns cells hung r hr er))
 
       pub compares_rows : (a b : Chart) (x : Bool) → x ≡ same_chart a b → a ≡ row cells (size ns) l → b ≡ row cells (size ns) r → Ok x ≡ compares m l r
       compares_rows a b x e ea eb = ap Ok (e ∙ ap₂ same_chart ea eb) ∙ sym same_rows
 
     module _ (t : ℕ) (ht : t < 8) where
-      -- a call that joins two charts is refused for a bare peg
-      pub cheaper_bare : (get_or hung l false ≡ false) ⊎ (get_or hung r false ≡ false) → does m (cheaper t l r) ≡ Err 15
-      cheaper_bare b = refuses (refuse 14 (high t || (high l || high r)) ∷ []) 15 (bare m.pegs l || bare m.pegs r) (no_room m (cheaper t l r) ∷ []) tt (all_low t l r ht hl hr, tt) (one_bare b)
-
-      pub sum_bare : (get_or hung l false ≡ false) ⊎ (get_or hung r false ≡ false) → does m (sum t l r) ≡ Err 15
-      sum_bare b = refuses (refuse 14 (high t || (high l || high r)) ∷ []) 15 (bare m.pegs l || bare m.pegs r) (refuse 16 (late (plus (greatest (on m.pegs l)) (greatest (on m.pegs r)))) ∷ no_room m (sum t l r) ∷ []) tt (all_low t l r ht hl hr, tt) (one_bare b)
-
       module _ (el : get_or hung l false ≡ true) (er : get_or hung r false ≡ true) where
         joined_rows : (op : Time → Time → Time) → zipped op (on m.pegs l) (on m.pegs r) ≡ zipped op (row cells (size ns) l) (row cells (size ns) r)
         joined_rows op = ap₂ (zipped op) (row_on ns cells hung l hl el) (row_on ns cells hung r hr er)
 
         cheaper_checks : AllByRecursion (λ k. k.holds ≡ false) (call_checks m (cheaper t l r))
-        cheaper_checks = (all_low t l r ht hl hr, (none_bare el er, (refl, tt)))
+        cheaper_checks = (all_low t l r ht hl hr, (none_bare m hung tells l r hl hr el er, (refl, tt)))
 
         cheaper_does : does m (cheaper t l r) ≡ Ok tt
         cheaper_does = accepts (call_checks m (cheaper t l r)) tt cheaper_checks
@@ -95,11 +68,11 @@ module _ (ns : Shape) (cells : List Time) (hung : List Bool) where
         sum_of = λ i. late (plus (greatest (row_on ns cells hung l hl el i)) (greatest (row_on ns cells hung r hr er i)))
 
         sum_late : (b : Bool) → b ≡ late (plus (greatest (row cells (size ns) l)) (greatest (row cells (size ns) r))) → b ≡ true → does m (sum t l r) ≡ Err 16
-        sum_late b f e = refuses (refuse 14 (high t || (high l || high r)) ∷ refuse 15 (bare m.pegs l || bare m.pegs r) ∷ []) 16 (late (plus (greatest (on m.pegs l)) (greatest (on m.pegs r)))) (no_room m (sum t l r) ∷ []) tt (all_low t l r ht hl hr, (none_bare el er, tt)) (sum_of ∙ sym f ∙ e)
+        sum_late b f e = refuses (refuse 14 (high t || (high l || high r)) ∷ refuse 15 (bare m.pegs l || bare m.pegs r) ∷ []) 16 (late (plus (greatest (on m.pegs l)) (greatest (on m.pegs r)))) (no_room m (sum t l r) ∷ []) tt (all_low t l r ht hl hr, (none_bare m hung tells l r hl hr el er, tt)) (sum_of ∙ sym f ∙ e)
 
         module _ (b : Bool) (told : b ≡ late (plus (greatest (row cells (size ns) l)) (greatest (row cells (size ns) r)))) (timely : b ≡ false) where
           sum_checks : AllByRecursion (λ k. k.holds ≡ false) (call_checks m (sum t l r))
-          sum_checks = (all_low t l r ht hl hr, (none_bare el er, (sum_of ∙ sym told ∙ timely, (refl, tt))))
+          sum_checks = (all_low t l r ht hl hr, (none_bare m hung tells l r hl hr el er, (sum_of ∙ sym told ∙ timely, (refl, tt))))
 
           sum_does : does m (sum t l r) ≡ Ok tt
           sum_does = accepts (call_checks m (sum t l r)) tt sum_checks
@@ -109,20 +82,6 @@ module _ (ns : Shape) (cells : List Time) (hung : List Bool) where
 
           sum_legal : Sound m → some late (zipped plus (row cells (size ns) l) (row cells (size ns) r)) ≡ false
           sum_legal s = ap (some late) (sym (joined_rows plus)) ∙ hung_legal m s (sum t l r) sum_checks
-
-  pub compares_refused : (l r : ℕ) (f : ShelfFault) → NoCharts hung l r f → compares m l r ≡ Err (number f)
-  compares_refused l r f (inl h) = rw h.0 (refuses [] 14 (high l || high r) (refuse 15 (bare m.pegs l || bare m.pegs r) ∷ []) _ tt (one_high l r h.1))
-  compares_refused l r f (inr h) = rw h.0 (compares_bare l r h.1 h.2 h.3)
-
-  pub cheaper_refused : (t l r : ℕ) (f : ShelfFault) → t < 8 → NoCharts hung l r f → does m (cheaper t l r) ≡ Err (number f)
-  cheaper_refused t l r f ht (inl h) =
-      rw h.0 (refuses [] 14 (high t || (high l || high r)) (refuse 15 (bare m.pegs l || bare m.pegs r) ∷ no_room m (cheaper t l r) ∷ []) tt tt (or_right (high t) (high l || high r) (one_high l r h.1)))
-  cheaper_refused t l r f ht (inr h) = rw h.0 (cheaper_bare l r h.1 h.2 t ht h.3)
-
-  pub sum_refused : (t l r : ℕ) (f : ShelfFault) → t < 8 → NoCharts hung l r f → does m (sum t l r) ≡ Err (number f)
-  sum_refused t l r f ht (inl h) =
-      rw h.0 (refuses [] 14 (high t || (high l || high r)) (refuse 15 (bare m.pegs l || bare m.pegs r) ∷ refuse 16 (late (plus (greatest (on m.pegs l)) (greatest (on m.pegs r)))) ∷ no_room m (sum t l r) ∷ []) tt tt (or_right (high t) (high l || high r) (one_high l r h.1)))
-  sum_refused t l r f ht (inr h) = rw h.0 (sum_bare l r h.1 h.2 t ht h.3)
 
   -- A dial
   module _ (t v : ℕ) (es : List Time) (device : v < length ns) (ht : t < 8) (timely : some late (take (get_or ns v 0) es) ≡ false) where
@@ -170,17 +129,6 @@ module _ (ns : Shape) (cells : List Time) (hung : List Bool) where
 
         pub reads_row : get_or hung p false ≡ true → (c : Chart) → c ≡ row cells (size ns) p → Ok (get_or c k None) ≡ reads m p s
         reads_row e c f = (λ i. Ok (get_or (f i) ((placed ns s k scene).0 i) None)) ∙ sym (row_read e)
-
--- A call as its caller reads it: what it is answered, and what it leaves
-
-pub record Answered (m : Meaning) (call : Call) (r : Result (Unit {0}) ℕ) (n : Meaning) : Type 0 where
-  pub answer : r ≡ does m call
-  pub left : n ≡ done m call
-
-pub refused_call : (m : Meaning) (call : Call) (f : ShelfFault) → does m call ≡ Err (number f) → (r : Result (Unit {0}) ShelfFault) → IsErrAnd r (λ y. y ≡ f) → Answered m call (numbered r) m
-refused_call m call f e r h =
-    let p = err_from_is_err_and r h in
-    record { answer = ap numbered (p.1 ∙ ap Err p.2) ∙ sym e; left = sym (call_refused m call _ e) }
 
 -- two pegs that hang, joined onto a third
 module _ (s : FlatShelf) (t l r : ℕ) (target left right : Peg) (named : target.number ≡ t) (hang : Hangs s.hung l left.number × Hangs s.hung r right.number) where

@@ -1,6 +1,5 @@
 pub mod Rows
 pub mod Means
-pub mod Numbers
 pub mod Openings
 pub mod Hanging
 pub mod Rowing

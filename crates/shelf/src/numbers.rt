@@ -22,6 +22,7 @@ pub fn peg_of(number: u8) -> Result<Peg, ShelfFault>
     ensures { MatchResult result (λ p. p.number ≡ number) (High ShelfFault.PegHigh peg_count number) }
 {
     let peg = usize::from(number);
+    // Not `then` and `ok_or`: the closure that makes a peg would ask once more, by a clause of its own, that it is low.
     if peg < PEGS {
         Ok(Peg { number: peg })
     } else {
@@ -34,11 +35,9 @@ pub fn device_of(settings: &[u8], number: u8) -> Result<usize, ShelfFault>
     ensures { MatchResult result (Names (length settings.now) number) (High ShelfFault.DeviceHigh (length settings.now) number) }
 {
     let device = usize::from(number);
-    if device < settings.len() {
-        Ok(device)
-    } else {
-        Err(ShelfFault::DeviceHigh)
-    }
+    (device < settings.len())
+        .then_some(device)
+        .ok_or(ShelfFault::DeviceHigh)
 }
 
 /// Whether some setting is too high for its device.

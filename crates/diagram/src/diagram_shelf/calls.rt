@@ -30,14 +30,14 @@ impl Shelf for DiagramShelf {
             return Err(ShelfFault::TimeHigh);
         }
         let entries = *entries;
-        self.hang_task(Task::Dial { device, entries }, target.number)
+        self.hang_task(Task::Dial { device, entries }, target)
     }
 
     fn cheaper(&mut self, target: u8, left: u8, right: u8) -> Result<(), ShelfFault> {
         let target = peg_of(target)?;
         let _ = self.charts(left, right)?;
         let op = Op::Cheaper;
-        self.hang_task(Task::Join { op, left, right }, target.number)
+        self.hang_task(Task::Join { op, left, right }, target)
     }
 
     fn sum(&mut self, target: u8, left: u8, right: u8) -> Result<(), ShelfFault> {
@@ -48,7 +48,7 @@ impl Shelf for DiagramShelf {
             return Err(ShelfFault::TimeHigh);
         }
         let op = Op::Sum;
-        self.hang_task(Task::Join { op, left, right }, target.number)
+        self.hang_task(Task::Join { op, left, right }, target)
     }
 
     fn put(&mut self, target: u8, source: u8, device: u8, setting: u8) -> Result<(), ShelfFault> {
@@ -58,15 +58,12 @@ impl Shelf for DiagramShelf {
         }
         let target = peg_of(target)?;
         let _ = self.chart(source)?;
-        let peg = source;
-        self.hang_task(
-            Task::Put {
-                peg,
-                device,
-                setting,
-            },
-            target.number,
-        )
+        let task = Task::Put {
+            peg: source,
+            device,
+            setting,
+        };
+        self.hang_task(task, target)
     }
 
     fn wipe(&mut self, peg: u8) -> Result<(), ShelfFault> {

@@ -2,12 +2,12 @@ ghost use Rattle.flat.specs.Means.{means};
 ghost use Rattle.flat.specs.Hanging.{sound_of};
 
 use crate::store::FlatShelf;
-use crate::store::numbers::peg_of;
 use cells::joins::{Lesser, Sum};
 use cells::rows::{same_rows, some_late};
 use lists::limits::MOST_SETTINGS;
 use shelf::calls::Shelf;
 use shelf::fault::ShelfFault;
+use shelf::numbers::peg_of;
 
 /// A flat shelf always has room.
 impl Shelf for FlatShelf {

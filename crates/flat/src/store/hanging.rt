@@ -6,11 +6,11 @@ ghost use Rattle.shelf.specs.Shapes.{shape_of};
 ghost use Rattle.flat.specs.Means.{means, row_of, hanging};
 
 use crate::store::FlatShelf;
-use crate::store::numbers::Peg;
 use cells::joins::Join;
 use cells::rows::{greatest, join_rows};
 use cells::runs::{Strides, dial_row, put_row};
 use lists::limits::MOST_SETTINGS;
+use shelf::numbers::Peg;
 use times::sum_is_late;
 
 impl FlatShelf {

@@ -1,41 +1,17 @@
-ghost use Rattle.std.specs.Prelude.{◌≡◌, ◌<◌, length, MatchResult};
-ghost use Rattle.model.specs.Limits.{peg_count};
+ghost use Rattle.std.specs.Prelude.{length, MatchResult};
 ghost use Rattle.shelf.specs.Shapes.{shape_of};
-ghost use Rattle.flat.specs.Numbers.{Names, High, Hangs, NoChart, NoCharts};
+ghost use Rattle.shelf.specs.Numbers.{Names, High, Hangs, NoChart, NoCharts};
 
 use crate::store::FlatShelf;
-use lists::limits::PEGS;
 use shelf::fault::ShelfFault;
-
-/// A number below that of the pegs.
-#[derive(Clone, Copy)]
-pub(crate) struct Peg {
-    pub number: usize,
-    ghost low: { number < peg_count },
-}
-
-/// The peg of a number, where there is one.
-pub(crate) fn peg_of(number: u8) -> Result<Peg, ShelfFault>
-    ensures { MatchResult result (λ p. p.number ≡ number) (High ShelfFault.PegHigh peg_count number) }
-{
-    let peg = usize::from(number);
-    // Not `then` and `ok_or`: the closure that makes a peg would ask once more, by a clause of its own, that it is low.
-    if peg < PEGS {
-        Ok(Peg { number: peg })
-    } else {
-        Err(ShelfFault::PegHigh)
-    }
-}
+use shelf::numbers::{Peg, device_of, peg_of};
 
 impl FlatShelf {
     /// The device of a number, where there is one.
     pub(crate) fn device(&self, number: u8) -> Result<usize, ShelfFault>
         ensures { MatchResult result (Names (length (shape_of self.now.shape)) number) (High ShelfFault.DeviceHigh (length (shape_of self.now.shape)) number) }
     {
-        let device = usize::from(number);
-        (device < self.shape.devices())
-            .then_some(device)
-            .ok_or(ShelfFault::DeviceHigh)
+        device_of(self.shape.settings(), number)
     }
 
     /// The peg of a number, where a chart hangs on it.

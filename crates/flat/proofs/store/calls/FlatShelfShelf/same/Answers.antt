@@ -1,14 +1,16 @@
 use Rattle.std.proofs.Common.{vec_items, sym}
 use Rattle.std.proofs.lemmas.Result.{err_from_is_err_and}
 use Rattle.shelf.specs.Shapes.{shape_of}
-use Rattle.flat.proofs.Calling.{compares_refused, compares_rows}
+use Rattle.flat.specs.Means.{means}
+use Rattle.flat.proofs.Calling.{tells, compares_rows}
+use Rattle.shelf.proofs.Calling.{compares_refused}
 use Rattle.flat.proofs.store.calls.FlatShelfShelf.same.Goals as goal
 
 pub returns-in_err-left : goal.returns-in_err-left
 returns-in_err-left c =
     let s = c.args.self.now in
     let p = err_from_is_err_and c.from_residual.result c.from_residual.ensures.1 in
-    record { answer = rw (p.1, p.2) (sym (compares_refused (shape_of s.shape) (vec_items s.cells) s.hung c.args.left c.args.right _ c.in_err-left.ensures)) }
+    record { answer = rw (p.1, p.2) (sym (compares_refused (means s) s.hung (tells (shape_of s.shape) (vec_items s.cells) s.hung) c.args.left c.args.right _ c.in_err-left.ensures)) }
 
 pub returns : goal.returns
 returns c =
