@@ -2,7 +2,7 @@ ghost use Rattle.table.specs.Tables.{Empty};
 ghost use Rattle.collect.specs.Copies.{Noted};
 
 /// Notes to which slot the node in a slot was copied.
-// Not shared with `Short::set`: its contract says which notes stand afterwards, and that of `set` what the list is.
+// Not `lists::places::set_in`: that says what the slice is afterwards, this which notes stand, and this crate knows no lists.
 pub fn note(moved: &mut [Option<u16>], i: u16, to: u16)
     ensures { Noted moved.old moved.new i to }
 {

@@ -22,6 +22,7 @@ impl Charge {
     fn bounded(&self) -> Option<Surcharge>
         ensures { MatchOption result (tests_off (charge_of self.now) ≡ true) (λ x. (tests_off (charge_of self.now) ≡ false) × (surcharge_of x ≡ charge_of self.now)) }
     {
+        // A guard: `then_some(())?` would hide the test behind a value that says nothing.
         if self.tests.is_empty() {
             return None;
         }

@@ -3,6 +3,7 @@ ghost use Rattle.model.specs.Lists.{repeats as some_repeat};
 ghost use Rattle.lists.specs.Repeats.{has_stood, Apart, Repeated};
 
 /// An entry of a list in which no two may have the same key.
+// Not a hash table's trait of entries: that has laws and a place to start at, which no list needs.
 pub trait Keyed {
     // whether two entries have the same key
     ghost same: { Self → Self → Bool };

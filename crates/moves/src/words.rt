@@ -27,6 +27,7 @@ impl RigFault {
     }
 }
 
+// By hand, as for the other faults: a trait of numbers and words would be written out for each at as much length.
 impl fmt::Display for RigFault {
     fn fmt<W: fmt::Write>(&self, f: &mut fmt::Formatter<W>) -> fmt::Result {
         let number = self.number();

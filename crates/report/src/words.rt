@@ -4,6 +4,7 @@ use steps::fault::PlanFault;
 use steps::hanging::Hanging;
 
 /// A call on a shelf, in words.
+// A type for its `Display` alone: what is printed is a part of a line of the program, and not what a call is.
 #[derive(Clone, Copy)]
 struct CallWords {
     call: Hanging,

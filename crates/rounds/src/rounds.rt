@@ -14,6 +14,7 @@ use steps::halt::Halt;
 use steps::round::Round;
 
 /// Adds the masks of the devices after the first to peg 0: 0 at admitted settings, never elsewhere.
+// Here and below slices are few by a clause: these are parts of a rig, taken apart by the calls above.
 fn masked<S: Shelf>(round: &mut Round<S>, masks: &[u8]) -> Result<(), Halt>
     requires few { length masks.now < most_devices }
     ensures took { Took S.meaning round.old (the_masked 1 masks.now) result round.new }

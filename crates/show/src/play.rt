@@ -51,6 +51,7 @@ pub fn play<S: Shelf>(rig: &mut Rig, cues: &mut [Cue<S>])
 
 /// Opens a rig over a table of slots and makes each call in turn: a show from its beginning. A refused opening makes no
 /// call and hands the table back.
+// Settings, names and scene stay apart, as the call `open` of a rig takes them.
 pub fn show<S: Shelf>(
     settings: &[u8],
     names: &[Name],

@@ -1,5 +1,5 @@
 //! Open-addressed slots in a lent slice, written once for every kind of entry.
-// By hand: the maps of the library take memory as they grow, and these slots are lent once and stay as many.
+// By hand: the maps of the library take memory as they grow, and these slots are handed over once and stay as many.
 #![tactic(auto)]
 
 pub mod entry;

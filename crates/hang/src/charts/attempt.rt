@@ -13,8 +13,9 @@ use nodes::remembered::Op;
 use puts::put;
 use table::slots::taken;
 
-// `Allowed` in each contract, and not in a task: it relates a task to what the pegs carry at that moment. A target is a
-// number below `N` by a clause: a type for it would say no more, and each caller would make one.
+// What each leaves is said in two clauses, of the pegs and of the store, which are the two parts of charts.
+// `Allowed` in each contract, and not in a task: it relates a task to what the pegs carry at that moment.
+// A target is below `N` by a clause: of an array's own length no type of a number could say more.
 impl<const N: usize> Charts<N> {
     /// The edge of two pegs joined.
     fn join_pegs(&mut self, op: Op, left: u8, right: u8) -> Option<Edge>
