@@ -3,11 +3,10 @@ use Rattle.std.proofs.Common.{◌≡◌, ℕ, Bool, true, false, ◌&&◌, ◌||
 use Rattle.std.specs.List.{AllByRecursion}
 use Rattle.std.proofs.lemmas.Bool.{both_ways, or_parts, leb-false, lt-ltb}
 use Rattle.std.proofs.lemmas.List.Elements.{All-from_recursion, recursion_from_All, All-push}
-use Rattle.model.specs.Charts.{Chart, late, plus, greatest}
+use Rattle.model.specs.Charts.{late, plus, greatest}
 use Rattle.model.specs.Lists.{some}
 use Rattle.model.specs.Refusals.{Check, refuse, answer}
-use Rattle.model.specs.Scenes.{Shape}
-use Rattle.model.specs.Shelves.{Meaning, Pegs, Call, dial, cheaper, sum, put, Sound, on, bare, high, hung, target, no_room, overfills, call_checks, does, done, flat_fill}
+use Rattle.model.specs.Shelves.{Meaning, Call, dial, cheaper, sum, put, Sound, on, bare, high, hung, target, no_room, overfills, call_checks, does, flat_fill}
 use Rattle.model.proofs.Refusing.{accepts, refuses}
 use Rattle.model.proofs.Soundness.{call_accepted, call_refused, hung_legal}
 use Rattle.nodes.specs.declared.remembered.Op.TheVariants.{Cheaper, Sum}

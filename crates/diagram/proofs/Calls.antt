@@ -1,14 +1,13 @@
 -- The calls of a diagram shelf that hang a chart, once their numbers and pegs were judged. Assumes nothing.
-use Rattle.std.proofs.Common.{◌≡◌, ℕ, ◌<◌, Bool, true, false, not, ◌&&◌, ◌||◌, ltb, leb, List, [], ◌∷◌, length, take, slice_index, slice_set, None, Ok, Err, Result, sym, refl, ap, ◌∙◌, subst, inl, inr, arith}
+use Rattle.std.proofs.Common.{◌≡◌, ℕ, ◌<◌, Bool, true, false, ◌&&◌, ◌||◌, ltb, leb, List, [], ◌∷◌, length, take, slice_index, slice_set, None, Ok, Err, Result, sym, refl, ap, ◌∙◌, subst, inl, inr}
 use Rattle.std.proofs.lemmas.Bool.{and_right, or_right, lt-leb, le-leb}
 use Rattle.std.proofs.lemmas.List.{map-set}
 use Rattle.nodes.specs.declared.edge.Edge.{Edge}
-use Rattle.nodes.specs.declared.remembered.Op.TheVariants.{Cheaper, Sum}
 use Rattle.model.specs.Charts.{Time, at, late, plus, greatest, same_chart}
 use Rattle.model.specs.Lists.{some}
 use Rattle.model.specs.Refusals.{refuse, answer}
 use Rattle.model.specs.Scenes.{Shape, Scene, SceneOf}
-use Rattle.model.specs.Shelves.{Meaning, Call, dial, cheaper, sum, put, on, does, no_room, high, bare, with_pegs, wipes, wiped, compares, reads, scene_checks}
+use Rattle.model.specs.Shelves.{Meaning, dial, cheaper, sum, put, on, does, no_room, high, bare, with_pegs, wipes, wiped, compares, reads, scene_checks}
 use Rattle.model.proofs.Refusing.{accepts, refuses, accepted, accepted_first, left_ok}
 use Rattle.model.proofs.Ranks.{tests_scene}
 use Rattle.model.proofs.Charting.{same_is_equal}
@@ -20,7 +19,6 @@ use Rattle.store.proofs.Canon.{canonical}
 use Rattle.build.specs.Grew.{nodes_in, shape_in}
 use Rattle.hang.specs.Tasks.{call_of, made, Allowed}
 use Rattle.hang.specs.declared.task.Task.{Task}
-use Rattle.hang.specs.declared.task.Task.TheVariants.{Dial, Join, Put}
 use Rattle.pegs.specs.Held.{peg_chart, pegs_in}
 use Rattle.shelf.specs.Faults.{number, numbered}
 use Rattle.shelf.specs.Numbers.{NoChart}

@@ -1,14 +1,11 @@
 -- What the pegs of a diagram shelf carry, and the charts that its meaning has there. Assumes nothing.
-use Rattle.std.proofs.Common.{◌≡◌, ℕ, zero, suc, ◌<◌, Bool, true, false, not, List, [], ◌∷◌, length, map, get_or, is_some, Some, None, Option, sym, refl, ap, ◌∙◌, subst, arith}
-use Rattle.std.proofs.lemmas.Bool.{both_ways}
+use Rattle.std.proofs.Common.{◌≡◌, ℕ, zero, suc, ◌<◌, true, false, not, List, [], ◌∷◌, get_or, is_some, Some, None, Option, refl, ap, ◌∙◌, subst, arith}
 use Rattle.std.specs.List.{AllByRecursion}
 use Rattle.nodes.specs.declared.edge.Edge.{Edge}
 use Rattle.nodes.specs.declared.node.Node.{Node}
-use Rattle.model.specs.Charts.{Chart, late}
-use Rattle.model.specs.Lists.{some}
 use Rattle.model.specs.Scenes.{Shape}
 use Rattle.model.specs.Shelves.{on, bare, chart_of}
-use Rattle.store.specs.Stores.{chart, Fine}
+use Rattle.store.specs.Stores.{chart}
 use Rattle.build.specs.Grew.{nodes_in, shape_in}
 use Rattle.pegs.specs.Held.{peg_chart, peg_fine, pegs_of}
 use Rattle.diagram.specs.declared.diagram_shelf.DiagramShelf.{DiagramShelf}

@@ -9,7 +9,7 @@ use Rattle.model.specs.Charts.{Chart, late}
 use Rattle.model.specs.Lists.{some}
 use Rattle.model.specs.Scenes.{Shape, size}
 use Rattle.model.specs.Shelves.{Sound}
-use Rattle.store.specs.Stores.{chart, Fine, Store}
+use Rattle.store.specs.Stores.{chart, Fine}
 use Rattle.store.proofs.Canon.{knows}
 use Rattle.build.specs.Grew.{nodes_in, shape_in}
 use Rattle.pegs.specs.Held.{peg_chart, peg_fine, pegs_of}

@@ -1,8 +1,7 @@
 -- The calls of a flat shelf: when they are refused, and what they leave. Assumes nothing.
-use Rattle.std.proofs.Common.{not, ◌≡◌, ℕ, ◌<◌, ◌≤◌, Bool, true, false, ◌&&◌, ◌||◌, ltb, leb, ◌⊎◌, List, [], ◌∷◌, length, get_or, take, None, Ok, Err, Result, IsErrAnd, vec_items, sym, refl, ap, ◌∙◌, ap₂, inl, inr, arith}
+use Rattle.std.proofs.Common.{not, ◌≡◌, ℕ, ◌<◌, Bool, true, false, ◌&&◌, ◌||◌, ltb, leb, List, [], ◌∷◌, length, get_or, take, None, Ok, Err, vec_items, sym, refl, ap, ◌∙◌, ap₂, arith}
 use Rattle.std.specs.List.{AllByRecursion}
-use Rattle.std.proofs.lemmas.Result.{err_from_is_err_and}
-use Rattle.std.proofs.lemmas.Bool.{or_left, or_right, or_from, and_right, lt-leb, le-leb}
+use Rattle.std.proofs.lemmas.Bool.{and_right, lt-leb}
 use Rattle.model.specs.Lists.{some}
 use Rattle.model.specs.Scenes.{Shape, Scene, size, rank}
 use Rattle.model.specs.Charts.{Time, Chart, at, lesser, plus, zipped, dialled, put_chart, greatest, late, same_chart}
@@ -10,10 +9,8 @@ use Rattle.model.specs.Refusals.{refuse, answer}
 use Rattle.model.specs.Shelves.{Meaning, Sound, Call, dial, cheaper, sum, put, on, bare, high, no_room, call_checks, does, done, compares, reads, scene_checks}
 use Rattle.model.proofs.Refusing.{refuses, accepts, accepted, accepted_is, accepted_first}
 use Rattle.model.proofs.Ranks.{rank_less, tests_scene}
-use Rattle.model.proofs.Soundness.{call_accepted, call_refused, hung_legal}
-use Rattle.shelf.specs.Faults.{number, numbered}
+use Rattle.model.proofs.Soundness.{call_accepted, hung_legal}
 use Rattle.shelf.specs.Shapes.{shape_of}
-use Rattle.shelf.specs.declared.fault.ShelfFault.{ShelfFault}
 use Rattle.flat.specs.Rows.{row, flat}
 use Rattle.flat.specs.declared.store.FlatShelf.{FlatShelf}
 use Rattle.shelf.specs.declared.numbers.Peg.{Peg}

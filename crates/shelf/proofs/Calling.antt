@@ -3,7 +3,7 @@ use Rattle.std.proofs.Common.{◌≡◌, ℕ, ◌<◌, ◌≤◌, Bool, true, fa
 use Rattle.std.proofs.lemmas.Bool.{or_left, or_right, or_from, lt-leb, le-leb}
 use Rattle.std.proofs.lemmas.Result.{err_from_is_err_and}
 use Rattle.model.specs.Charts.{late, plus, greatest, same_chart}
-use Rattle.model.specs.Refusals.{refuse, answer}
+use Rattle.model.specs.Refusals.{refuse}
 use Rattle.model.specs.Shelves.{Meaning, Call, cheaper, sum, on, bare, high, no_room, does, done, compares}
 use Rattle.model.proofs.Refusing.{refuses, accepts}
 use Rattle.model.proofs.Soundness.{call_refused}

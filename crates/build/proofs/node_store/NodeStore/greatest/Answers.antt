@@ -1,5 +1,5 @@
 use Rattle.std.proofs.Common.{◌≡◌, false, ap, sym, refl, ◌∙◌}
-use Rattle.model.specs.Charts.{greatest, late, plus}
+use Rattle.model.specs.Charts.{late, plus}
 use Rattle.model.proofs.Lateness.{late_tells}
 use Rattle.store.specs.Stores.{chart, below}
 use Rattle.store.proofs.Canon.{knows}

@@ -1,7 +1,4 @@
-use Rattle.std.proofs.Common.{rules, subst}
-use Rattle.lists.specs.Shorts.{listed}
-use Rattle.diagram.specs.Means.{means}
-use Rattle.diagram.specs.Openings.{diagram_opened}
+use Rattle.std.proofs.Common.{rules}
 use Rattle.diagram.proofs.Opening.{opened_is}
 use Rattle.diagram.proofs.diagram_shelf.DiagramShelf.open.Goals as goal
 

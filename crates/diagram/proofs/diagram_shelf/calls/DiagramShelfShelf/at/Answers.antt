@@ -1,6 +1,5 @@
 use Rattle.std.proofs.Common.{sym}
 use Rattle.std.proofs.lemmas.Result.{err_from_is_err_and}
-use Rattle.diagram.specs.Means.{means}
 use Rattle.diagram.proofs.Calls.{read_refused, scene_is}
 use Rattle.diagram.proofs.diagram_shelf.calls.DiagramShelfShelf.at.Goals as goal
 

@@ -16,11 +16,11 @@ returns-in_err-charts c =
     let q = refused_call (means s) (cheaper c.args.target c.args.left c.args.right) _ e c.from_residual-in_err-charts.result c.from_residual-in_err-charts.ensures.1 in
     record { answer = q.answer; left = q.left }
 
-pub hang_task-requires-clause-allowed : goal.hang_task-requires-clause-allowed
-hang_task-requires-clause-allowed c =
+pub hang_task-requires : goal.hang_task-requires
+hang_task-requires c =
     let s = c.args.self.now in
     let got = c.in_ok-charts.ensures in
-    may s c.in_ok-target.target (Join Cheaper c.args.left c.args.right) (cheaper_passes s c.in_ok-target.target c.args.left c.args.right _ _ got.0 got.1)
+    record { allowed = may s c.in_ok-target.target (Join Cheaper c.args.left c.args.right) (cheaper_passes s c.in_ok-target.target c.args.left c.args.right _ _ got.0 got.1) }
 
 pub returns : goal.returns
 returns c =

@@ -1,14 +1,12 @@
-use Rattle.std.proofs.Common.{arith, sym, ap, ◌∙◌}
-use Rattle.model.specs.Charts.{late, plus}
+use Rattle.std.proofs.Common.{arith, sym}
 use Rattle.model.specs.Shelves.{sum}
 use Rattle.model.proofs.Soundness.{call_refused}
-use Rattle.model.proofs.Lateness.{late_tells}
 use Rattle.nodes.specs.declared.remembered.Op.TheVariants.{Sum}
 use Rattle.hang.specs.declared.task.Task.TheVariants.{Join}
 use Rattle.shelf.proofs.Calling.{sum_refused, refused_call}
 use Rattle.diagram.specs.Means.{means}
 use Rattle.diagram.specs.Numbers.{hung_in}
-use Rattle.diagram.proofs.Pegs.{tells, fine_is}
+use Rattle.diagram.proofs.Pegs.{tells}
 use Rattle.diagram.proofs.Calls.{reach_legal, sum_passes, sum_too_late, may, told}
 use Rattle.diagram.proofs.diagram_shelf.calls.DiagramShelfShelf.sum.Goals as goal
 
@@ -32,11 +30,11 @@ returns-then-sum_is_late c =
     let e = sum_too_late s c.in_ok-target.target c.args.left c.args.right _ _ got.0 got.1 _ _ c.greatest.ensures.value c.greatest-2.ensures.value _ c.sum_is_late.ensures.value c.args.target c.in_ok-target.ensures c.if-sum_is_late.true in
     record { answer = sym e; left = sym (call_refused (means s) (sum c.args.target c.args.left c.args.right) 16 e) }
 
-pub hang_task-requires-clause-allowed : goal.hang_task-requires-clause-allowed
-hang_task-requires-clause-allowed c =
+pub hang_task-requires : goal.hang_task-requires
+hang_task-requires c =
     let s = c.args.self.now in
     let got = c.in_ok-x.ensures in
-    may s c.in_ok-target.target (Join Sum c.args.left c.args.right) (sum_passes s c.in_ok-target.target c.args.left c.args.right _ _ got.0 got.1 _ _ c.greatest.ensures.value c.greatest-2.ensures.value _ c.sum_is_late.ensures.value c.if-sum_is_late.false)
+    record { allowed = may s c.in_ok-target.target (Join Sum c.args.left c.args.right) (sum_passes s c.in_ok-target.target c.args.left c.args.right _ _ got.0 got.1 _ _ c.greatest.ensures.value c.greatest-2.ensures.value _ c.sum_is_late.ensures.value c.if-sum_is_late.false) }
 
 pub returns : goal.returns
 returns c =
