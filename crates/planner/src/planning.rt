@@ -26,6 +26,7 @@ fn clear<S: Shelf>(shelf: &mut S)
 }
 
 /// The best way: its moves are counted before the sheet is written.
+// Rig, shelf and sheet are handed on apart: the shelf changes until the walk begins, and the sheet is written at its end.
 // It asks that the shelf is ready, and no type says it: the best way is data, which a truncated fact cannot give.
 fn best_way<S: Shelf>(
     rig: &Rig,
