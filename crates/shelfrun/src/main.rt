@@ -1,6 +1,7 @@
-// Opens a flat shelf, hangs, joins, puts and reads charts on it, and prints what it read.
+// Opens a flat shelf and a diagram shelf, hangs, joins, puts and reads charts on each, and prints what it read.
 #![tactic(auto)]
 
+use diagram::diagram_shelf::DiagramShelf;
 use either::Either;
 use flat::store::FlatShelf;
 use memory::handed_back;
@@ -51,17 +52,51 @@ fn refused<S: Shelf>(rt: &HostRuntime, shelf: &mut S) -> io::Result<()> {
     chart(rt, shelf, 0)
 }
 
-fn main(rt: HostRuntime) -> io::Result<()> {
+/// All of these calls on a shelf.
+fn run<S: Shelf>(rt: &HostRuntime, shelf: &mut S) -> io::Result<()> {
+    hang(rt, shelf)?;
+    refused(rt, shelf)
+}
+
+/// Openings of a flat shelf, two of them refused, and the calls on it.
+fn on_flat(rt: &HostRuntime) -> io::Result<()> {
     let cells = vec![in rt.alloc(); NEVER; 48]?;
-    let cells = handed_back(&rt, FlatShelf::open(&[2, 9], cells))?;
-    let cells = handed_back(&rt, FlatShelf::open(&[2, 2, 2], cells))?;
+    let cells = handed_back(rt, FlatShelf::open(&[2, 9], cells))?;
+    let cells = handed_back(rt, FlatShelf::open(&[2, 2, 2], cells))?;
     // A `match`: one end goes on with the shelf, the other prints why there is none and ends well.
     match FlatShelf::open(&[2, 3], cells) {
         Ok(flat) => {
-            let mut shelf: Either<FlatShelf, FlatShelf> = Either::Left(flat);
-            hang(&rt, &mut shelf)?;
-            refused(&rt, &mut shelf)
+            let mut shelf: Either<FlatShelf, DiagramShelf> = Either::Left(flat);
+            run(rt, &mut shelf)
         }
         Err(unopened) => println!(rt; "not opened: {}", unopened.fault.number()),
     }
+}
+
+/// The same calls on a diagram shelf with so many node slots.
+fn on_diagram(rt: &HostRuntime, slots: usize) -> io::Result<()> {
+    match DiagramShelf::open(rt.alloc(), &[2, 3], slots) {
+        Ok(diagram) => {
+            let mut shelf: Either<FlatShelf, DiagramShelf> = Either::Right(diagram);
+            run(rt, &mut shelf)
+        }
+        Err(fault) => println!(rt; "not opened: {fault}"),
+    }
+}
+
+/// A dial of device 0 of three with 0 and 5, which has three parts, on a diagram shelf with so many node slots.
+fn three_parts(rt: &HostRuntime, slots: usize) -> io::Result<()> {
+    let lamp = [Some(0), Some(5), NEVER, NEVER, NEVER, NEVER, NEVER, NEVER];
+    match DiagramShelf::open(rt.alloc(), &[2, 3, 2], slots) {
+        Ok(mut shelf) => said(rt, "dial of three parts", shelf.dial(0, 0, &lamp)),
+        Err(fault) => println!(rt; "not opened: {fault}"),
+    }
+}
+
+fn main(rt: HostRuntime) -> io::Result<()> {
+    on_flat(&rt)?;
+    on_diagram(&rt, 0)?;
+    on_diagram(&rt, 16)?;
+    three_parts(&rt, 3)?;
+    three_parts(&rt, 2)
 }

@@ -1,8 +1,7 @@
 //! The worked evening: a lamp and a sky, four moves that darken them, and a plan of the quickest run.
 use anyhow::anyhow;
+use diagram::diagram_shelf::DiagramShelf;
 use drafts::draft::{Charge, Draft};
-use flat::store::FlatShelf;
-use lists::limits::PEGS;
 use lists::names::Name;
 use moves::pair::Pair;
 use show::cue::Cue;
@@ -18,7 +17,8 @@ pub(crate) const SCENE: [u8; 2] = [ON, DAY];
 
 pub(crate) const SLOTS: usize = 4;
 
-const SCENES: usize = 6;
+/// How many node slots the shelf of a plan has.
+const NODE_SLOTS: usize = 512;
 
 const LAMP: u8 = 0;
 
@@ -56,7 +56,7 @@ fn of_sky(heap: Global, from: u8, to: u8, base: u16, extra: u16) -> anyhow::Resu
     Ok(draft)
 }
 
-fn add(number: usize, draft: Draft) -> Cue<FlatShelf> {
+fn add(number: usize, draft: Draft) -> Cue<DiagramShelf> {
     Cue::Add {
         number,
         draft,
@@ -64,12 +64,11 @@ fn add(number: usize, draft: Draft) -> Cue<FlatShelf> {
     }
 }
 
-/// A plan on a flat shelf, with room for sixteen moves.
-fn plan(heap: Global) -> anyhow::Result<Cue<FlatShelf>> {
-    let cells = vec![in heap; None; PEGS * SCENES]?;
+/// A plan on a diagram shelf, with room for sixteen moves.
+fn plan(heap: Global) -> anyhow::Result<Cue<DiagramShelf>> {
     let sheet = vec![in heap; 0u8; 16]?;
-    let shelf = FlatShelf::open(&SETTINGS, cells).map_err(|_| {
-        anyhow!("the shelf of the evening does not open")
+    let shelf = DiagramShelf::open(heap, &SETTINGS, NODE_SLOTS).map_err(|fault| {
+        anyhow!("the shelf of the evening does not open: {fault}")
     })?;
     Ok(Cue::Plan {
         shelf,
@@ -79,7 +78,7 @@ fn plan(heap: Global) -> anyhow::Result<Cue<FlatShelf>> {
 }
 
 /// The calls of the evening: four moves, any scene with a dark sky is wanted, and a plan.
-pub(crate) fn cues(heap: Global) -> anyhow::Result<Vec<Cue<FlatShelf>>> {
+pub(crate) fn cues(heap: Global) -> anyhow::Result<Vec<Cue<DiagramShelf>>> {
     let mut cues = Vec::new(heap);
     cues.push(add(0, plain(heap, LAMP, ON, OFF, 15)?))?;
     cues.push(add(1, of_sky(heap, DAY, DUSK, 20, 30)?))?;

@@ -4,7 +4,7 @@
 mod evening;
 
 use anyhow::Context;
-use flat::store::FlatShelf;
+use diagram::diagram_shelf::DiagramShelf;
 use planner::answer::Plan;
 use report::step::Step;
 use report::verdict::Verdict;
@@ -46,7 +46,7 @@ fn report(
 
 fn run(rt: &HostRuntime) -> anyhow::Result<()> {
     let slots = vec![in rt.alloc(); None; evening::SLOTS]?;
-    let mut cues: Vec<Cue<FlatShelf>> = evening::cues(rt.alloc())?;
+    let mut cues: Vec<Cue<DiagramShelf>> = evening::cues(rt.alloc())?;
     let mut rig = show(
         &evening::SETTINGS,
         &evening::NAMES,
