@@ -1,13 +1,12 @@
 -- The calls of a diagram shelf that hang a chart, once their numbers and pegs were judged. Assumes nothing.
-use Rattle.std.proofs.Common.{◌≡◌, ℕ, ◌<◌, Bool, true, false, ◌&&◌, ◌||◌, ltb, leb, List, [], ◌∷◌, length, take, slice_index, slice_set, None, Ok, Err, Result, sym, refl, ap, ◌∙◌, subst, inl, inr}
+use Rattle.std.proofs.Common.{◌≡◌, ℕ, ◌<◌, Bool, true, false, ◌&&◌, ◌||◌, ltb, leb, [], ◌∷◌, length, slice_index, slice_set, None, Ok, Err, Result, sym, refl, ap, ◌∙◌, subst, inl, inr}
 use Rattle.std.proofs.lemmas.Bool.{and_right, or_right, lt-leb, le-leb}
 use Rattle.std.proofs.lemmas.List.{map-set}
 use Rattle.nodes.specs.declared.edge.Edge.{Edge}
 use Rattle.model.specs.Charts.{Time, at, late, plus, greatest, same_chart}
-use Rattle.model.specs.Lists.{some}
 use Rattle.model.specs.Refusals.{refuse, answer}
 use Rattle.model.specs.Scenes.{Shape, Scene, SceneOf}
-use Rattle.model.specs.Shelves.{Meaning, dial, cheaper, sum, put, on, does, no_room, high, bare, with_pegs, wipes, wiped, compares, reads, scene_checks}
+use Rattle.model.specs.Shelves.{Meaning, cheaper, sum, put, on, does, no_room, high, bare, with_pegs, wipes, wiped, compares, reads, scene_checks}
 use Rattle.model.proofs.Refusing.{accepts, refuses, accepted, accepted_first, left_ok}
 use Rattle.model.proofs.Ranks.{tests_scene}
 use Rattle.model.proofs.Charting.{same_is_equal}
@@ -29,7 +28,7 @@ use Rattle.diagram.specs.declared.diagram_shelf.DiagramShelf.{DiagramShelf}
 use Rattle.diagram.specs.Means.{means, Hung}
 use Rattle.diagram.specs.Soundness.{sound_of}
 use Rattle.diagram.specs.Numbers.{Carries, hung_in}
-use Rattle.diagram.proofs.Pegs.{tells, hangs, not_bare, on_is, fine_is}
+use Rattle.diagram.proofs.Pegs.{tells, hangs, on_is, fine_is}
 use Rattle.diagram.proofs.Calling.{Passes, allowed, answers}
 
 -- a task that nothing but room can refuse, of a target with a name
@@ -71,15 +70,6 @@ module _ (s : DiagramShelf) (target : Peg) (l r : ℕ) (x y : Edge) (cx : Carrie
         let c = cheaper_passes in
         subst (λ k. does m (sum k l r) ≡ Err 16) named
         (refuses (refuse 14 (high target.number || (high l || high r)) ∷ refuse 15 (bare m.pegs l || bare m.pegs r) ∷ []) 16 (late (plus (greatest (on m.pegs l)) (greatest (on m.pegs r)))) (no_room m (sum target.number l r) ∷ []) tt (c.0, (c.1.0, tt)) (sum_is ∙ h))
-
--- a dial
-pub dial_passes : (s : DiagramShelf) (target : Peg) (v : ℕ) (es : List Time) → v < length (means s).shape → some late (take (slice_index (means s).shape v) es) ≡ false → Passes (means s) (dial target.number v es)
-dial_passes s target v es low timely = (lt-leb (length (means s).shape) v low, (low_peg target.number target.low, (timely, tt)))
-
--- a put
-pub put_passes : (s : DiagramShelf) (target : Peg) (a v d : ℕ) (e : Edge) → v < length (means s).shape → d < slice_index (means s).shape v → Carries s.charts.pegs a e → Passes (means s) (put target.number a v d)
-put_passes s target a v d e low legal c =
-    (lt-leb (length (means s).shape) v low, (and_right _ _ (lt-leb (slice_index (means s).shape v) d legal), (low_pegs target.number a target.low c.0, (not_bare s a e c, tt))))
 
 -- a source that carries nothing
 pub put_refused : (s : DiagramShelf) (t a v d : ℕ) (f : ShelfFault) → v < length (means s).shape → d < slice_index (means s).shape v → t < 8 → NoChart (hung_in s.charts.pegs) a f → does (means s) (put t a v d) ≡ Err (number f)
