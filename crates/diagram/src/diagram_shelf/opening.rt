@@ -8,13 +8,10 @@ use crate::open_fault::OpenFault;
 use build::node_store::NodeStore;
 use hang::charts::Charts;
 use lists::counts::shape_off;
-use lists::limits::{MOST_DEVICES, PEGS};
+use lists::limits::{MOST_DEVICES, MOST_NODES, PEGS};
 use lists::short::Short;
 use memo::diagrams::Diagrams;
 use std::alloc::{AllocError, Global};
-
-/// The most node slots that a diagram shelf has.
-const MOST_NODES: usize = 65_535;
 
 /// How many settings each device has, where a shelf of them may open with so many node slots.
 fn judged(settings: &[u8], slots: usize) -> Result<Short<u8, MOST_DEVICES>, OpenFault>
