@@ -62,6 +62,6 @@ module _ {op : Op} {nodes : List (Option Node)} {shape : Shape} {l : ℕ} {a b :
   sum_is_right z = (
     moved_fine nodes ns l wb ws.base b s.hb s.able.right.fine,
     later_by b ws.right (ap (λ (w : Weights). w.right) weights)
-    ∙ ap (later (Some ws.base)) (sym (sum_zero right left (sym long) z) ∙ zipped_comm plus (entry_comm Sum) right left ∙ ap (λ o. zipped (entry o) left right) (sym sum))
-    ∙ sym (whole_is s),
+        ∙ ap (later (Some ws.base)) (sym (sum_zero right left (sym long) z) ∙ zipped_comm plus (entry_comm Sum) right left ∙ ap (λ o. zipped (entry o) left right) (sym sum))
+        ∙ sym (whole_is s),
   )

@@ -49,7 +49,10 @@ pub fn join(diagrams: &mut Diagrams, op: Op, level: usize, a: Edge, b: Edge) -> 
         return Some(left);
     }
     if op == Op::Sum && diagrams.store.is_zero(level, Edge::from(x)) {
-        return Some(Edge { child: b.child, ..left });
+        return Some(Edge {
+            child: b.child,
+            ..left
+        });
     }
     let rest = join_nodes(diagrams, op, level, x, y)?;
     Some(raise(rest, weights.base))
