@@ -1,5 +1,5 @@
 -- Calls, and what comes of them. Assumes nothing.
-use Rattle.std.specs.Prelude.{◌≡◌, ℕ, ◌<◌, List, length, take, drop, Ok, Result}
+use Rattle.std.specs.Prelude.{◌≡◌, ℕ, ◌<◌, List, ◌++◌, length, take, drop, Ok, Result}
 use Rattle.std.specs.List.{flat_map}
 use Rattle.model.specs.Limits.{peg_count}
 use Rattle.model.specs.Scenes.{Shape}
@@ -8,11 +8,32 @@ use Rattle.model.specs.Moves.{Surcharge}
 use Rattle.model.specs.Contents.{Contents}
 use Rattle.model.specs.Calls.{withdraws, performs, wants, retimes, CountsWanted}
 use Rattle.model.specs.Shelves as shelf
+use Rattle.model.specs.Shelves.{Meaning, flat_opened}
+use Rattle.theory.specs.Performing.{Way}
+use Rattle.rule.specs.Running.{Fits}
+use Rattle.rule.specs.Rule.{rule}
+use Rattle.steps.specs.declared.fault.PlanFault.{PlanFault}
+use Rattle.planner.specs.declared.answer.Plan.{Plan}
+use Rattle.planner.specs.Plans.{cleared, Planned}
 use Rattle.diagram.specs.Openings.{diagram_opens, diagram_opened}
 use Rattle.format.specs.Bytes.{two}
 use Rattle.format.specs.Files as rig
 
+-- a plan of contents c with a sheet of so many bytes, on a shelf that has room
+pub record Plans (c : Contents) (bytes : ℕ) (said : Result Plan PlanFault) (front : List ℕ) : Type 0 where
+  -- whatever such a plan answers and leaves is this answer, and these bytes at the sheet's front
+  pub always :
+      (m n : Meaning) (old new : List ℕ) (answer : Result Plan PlanFault) → Planned c m old answer n new →
+      m.shape ≡ c.settings → Fits (cleared m) (rule c) → length old ≡ bytes →
+      (answer ≡ said) × (new ≡ front ++ drop (length front) old)
+  -- a flat shelf has room
+  pub flat : Fits (cleared (flat_opened c.settings)) (rule c)
+
 pub data Case : Type 0 where
+  -- a plan
+  plan : Contents → ℕ → Result Plan PlanFault → List ℕ → Case
+  -- a run of accepted performs leads to a wanted scene, and takes so long
+  run : Contents → List ℕ → ℕ → Case
   -- the file of a rig has so many bytes, and its devices, scene and moves begin there
   file : Contents → ℕ → List ℕ → Case
   -- a call on a rig is answered so
@@ -25,6 +46,8 @@ pub data Case : Type 0 where
   dial : Shape → ℕ → ℕ → List Time → Result (Unit {0}) ℕ → Case
 
 abbrev pub Holds : Case → Type 0
+Holds (plan c bytes said front) = Plans c bytes said front
+Holds (run c moves tenths) = Way c moves tenths
 Holds (file c many offsets) = (length (rig.file c) ≡ many) × (take 6 (drop 4 (rig.file c)) ≡ flat_map two offsets)
 Holds (perform c n said) = performs c n ≡ said
 Holds (withdraw c n said) = withdraws c n ≡ said
