@@ -3,6 +3,7 @@ use Rattle.std.proofs.Common.{◌≡◌, ℕ, ◌<◌, true, List, [], ◌∷◌
 use Rattle.model.specs.Contents.{Contents, slot}
 use Rattle.model.specs.Calls.{Lawful, lawful_slot, withdrawn, wanting}
 use Rattle.theory.specs.Performing.{Way}
+use Rattle.theory.specs.Ways.{Best}
 use Rattle.planner.specs.declared.answer.Plan.TheVariants as plan
 use Rattle.steps.specs.declared.fault.PlanFault.TheVariants.{SheetShort}
 use Rattle.format.specs.Evening.{evening}
@@ -18,23 +19,26 @@ lawful = record { opens = refl; wants = refl; moves = each_below (λ k. lawful_s
 without : (c : Contents) → Lawful c → (n : ℕ) → Lawful (withdrawn c n)
 without c law n = (calls_keep c law).withdraw n
 
-pub planned : Plans evening 3 (Ok (plan.Way 3 55 2)) (0 ∷ 1 ∷ 2 ∷ [])
-planned = way_plans evening 3 55 (0 ∷ 1 ∷ 2 ∷ []) (best_by evening lawful 55 refl) (omega arith)
+best : Best evening (0 ∷ 1 ∷ 2 ∷ []) 55
+best = best_by evening lawful 55 refl
 
-pub long_planned : Plans evening 4096 (Ok (plan.Way 3 55 2)) (0 ∷ 1 ∷ 2 ∷ [])
-long_planned = way_plans evening 4096 55 (0 ∷ 1 ∷ 2 ∷ []) (best_by evening lawful 55 refl) (omega arith)
+pub planned : Plans evening 4096 (Ok (plan.Way 3 55 2)) (0 ∷ 1 ∷ 2 ∷ [])
+planned = way_plans evening 4096 55 (0 ∷ 1 ∷ 2 ∷ []) (omega arith) best (omega arith)
 
-pub short_planned : Plans evening 2 (Err (SheetShort 3)) []
-short_planned = short_plans evening 2 55 (0 ∷ 1 ∷ 2 ∷ []) (best_by evening lawful 55 refl) (omega arith)
+pub short_sheet : Plans evening 2 (Err (SheetShort 3)) []
+short_sheet = short_plans evening 2 55 (0 ∷ 1 ∷ 2 ∷ []) (omega arith) best (omega arith)
+
+pub sheet_of_3 : Plans evening 3 (Ok (plan.Way 3 55 2)) (0 ∷ 1 ∷ 2 ∷ [])
+sheet_of_3 = way_plans evening 3 55 (0 ∷ 1 ∷ 2 ∷ []) (omega arith) best (omega arith)
 
 pub other_way : Way evening (0 ∷ 3 ∷ []) 55
 other_way = (ways_are_runs evening (0 ∷ 3 ∷ []) 55).1 (_, refl, refl, 40, (_, refl, refl, 0, (refl, refl), refl), refl)
 
 pub without_0 : Plans (withdrawn evening 0) 4096 (Ok (plan.Way 1 90 1)) (3 ∷ [])
-without_0 = way_plans (withdrawn evening 0) 4096 90 (3 ∷ []) (best_by (withdrawn evening 0) (without evening lawful 0) 90 refl) (omega arith)
+without_0 = way_plans (withdrawn evening 0) 4096 90 (3 ∷ []) (omega arith) (best_by (withdrawn evening 0) (without evening lawful 0) 90 refl) (omega arith)
 
 pub without_2_3 : Plans (withdrawn (withdrawn evening 2) 3) 4096 (Ok (plan.NoWay 0)) []
-without_2_3 = none_plans (withdrawn (withdrawn evening 2) 3) 4096 (none_by (withdrawn (withdrawn evening 2) 3) (without (withdrawn evening 2) (without evening lawful 2) 3) refl)
+without_2_3 = none_plans (withdrawn (withdrawn evening 2) 3) 4096 (omega arith) (none_by (withdrawn (withdrawn evening 2) 3) (without (withdrawn evening 2) (without evening lawful 2) 3) refl)
 
 pub all_wanted : Plans (wanting evening (3 ∷ 7 ∷ [])) 4096 (Ok (plan.Way 0 0 0)) []
-all_wanted = way_plans (wanting evening (3 ∷ 7 ∷ [])) 4096 0 [] (best_by (wanting evening (3 ∷ 7 ∷ [])) ((calls_keep evening lawful).want (3 ∷ 7 ∷ [])) 0 refl) (omega arith)
+all_wanted = way_plans (wanting evening (3 ∷ 7 ∷ [])) 4096 0 [] (omega arith) (best_by (wanting evening (3 ∷ 7 ∷ [])) ((calls_keep evening lawful).want (3 ∷ 7 ∷ [])) 0 refl) (omega arith)

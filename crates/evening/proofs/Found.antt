@@ -1,5 +1,5 @@
 -- The best way of lawful contents, by the times that the rule leaves. Assumes nothing.
-use Rattle.std.proofs.Common.{◌≡◌, ℕ, ◌<◌, ◌≤◌, List, [], ◌∷◌, length, Some, None, Ok, Err, Result, replicate, sym, refl, ap, ◌∙◌, subst, arith}
+use Rattle.std.proofs.Common.{◌≡◌, ℕ, ◌*◌, ◌<◌, ◌≤◌, List, [], ◌∷◌, length, Some, None, Ok, Err, Result, replicate, sym, refl, ap, ◌∙◌, subst, arith}
 use Rattle.model.specs.Limits.{peg_count}
 use Rattle.model.specs.Scenes.{Scene}
 use Rattle.model.specs.Charts.{Time, at}
@@ -13,13 +13,14 @@ use Rattle.theory.proofs.Best.{walks_best, never_none}
 use Rattle.theory.proofs.Greedy.{walk_found}
 use Rattle.theory.proofs.Tabling.{tables_lawful}
 use Rattle.theory.proofs.Told.{contents_told}
-use Rattle.rule.specs.Rule.{chart_after, count}
+use Rattle.rule.specs.Rule.{chart_after, count, rule}
 use Rattle.rule.proofs.Whole.{rule_right}
 use Rattle.planner.specs.declared.answer.Plan.TheVariants as plan
 use Rattle.steps.specs.declared.fault.PlanFault.TheVariants.{SheetShort}
 use Rattle.planner.specs.Plans.{NoWay}
 use Rattle.evening.specs.Cases.{Plans}
 use Rattle.evening.proofs.Plans.{way, short, none}
+use Rattle.evening.proofs.Rooms.{many_parts, diagram_fits}
 
 -- the times that the last round leaves
 abbrev pub times : Contents → Scene → Time
@@ -37,20 +38,25 @@ module _ (c : Contents) (law : Lawful c) where
   pub none_by : times c c.scene ≡ None → NoWay c
   none_by e = (never_none c law (times c) right).0 e
 
-pub way_plans : (c : Contents) (bytes t : ℕ) (is : List ℕ) → Best c is t → length is ≤ bytes → Plans c bytes (Ok (plan.Way (length is) t (count c))) is
-way_plans c bytes t is best le = record {
-  always = λ m n old new answer planned same fits long. way c m n old new same fits is t best (omega (arith, long)) answer planned;
-  flat = λ done left x e. refl;
-}
+-- nine times as many node slots as a chart has parts leave room for whatever the rule hangs
+module _ (c : Contents) (bytes t : ℕ) (is : List ℕ) (enough : 9 * many_parts c.settings ≤ 512) (best : Best c is t) where
+  pub way_plans : length is ≤ bytes → Plans c bytes (Ok (plan.Way (length is) t (count c))) is
+  way_plans le = record {
+    always = λ m n old new answer planned same fits long. way c m n old new same fits is t best (omega (arith, long)) answer planned;
+    flat = λ done left x e. refl;
+    diagram = diagram_fits c.settings 512 enough (rule c);
+  }
 
-pub short_plans : (c : Contents) (bytes t : ℕ) (is : List ℕ) → Best c is t → bytes < length is → Plans c bytes (Err (SheetShort (length is))) []
-short_plans c bytes t is best less = record {
-  always = λ m n old new answer planned same fits long. short c m n old new same fits is t best (omega (arith, long)) answer planned;
-  flat = λ done left x e. refl;
-}
+  pub short_plans : bytes < length is → Plans c bytes (Err (SheetShort (length is))) []
+  short_plans less = record {
+    always = λ m n old new answer planned same fits long. short c m n old new same fits is t best (omega (arith, long)) answer planned;
+    flat = λ done left x e. refl;
+    diagram = diagram_fits c.settings 512 enough (rule c);
+  }
 
-pub none_plans : (c : Contents) (bytes : ℕ) → NoWay c → Plans c bytes (Ok (plan.NoWay (count c))) []
-none_plans c bytes f = record {
+pub none_plans : (c : Contents) (bytes : ℕ) → 9 * many_parts c.settings ≤ 512 → NoWay c → Plans c bytes (Ok (plan.NoWay (count c))) []
+none_plans c bytes enough f = record {
   always = λ m n old new answer planned same fits long. none c m n old new same fits f answer planned;
   flat = λ done left x e. refl;
+  diagram = diagram_fits c.settings 512 enough (rule c);
 }

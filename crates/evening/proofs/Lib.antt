@@ -1,5 +1,6 @@
 pub mod Numbers
 pub mod Plans
+pub mod Rooms
 pub mod Found
 pub mod Evening
 pub mod Cases

@@ -19,39 +19,40 @@ use Rattle.diagram.specs.Openings.{diagram_opens, diagram_opened}
 use Rattle.format.specs.Bytes.{two}
 use Rattle.format.specs.Files as rig
 
--- a plan of contents c with a sheet of so many bytes, on a shelf that has room
+-- a plan of contents c, with a sheet of so many bytes, says this and leaves these bytes at the sheet's front
 pub record Plans (c : Contents) (bytes : ℕ) (said : Result Plan PlanFault) (front : List ℕ) : Type 0 where
-  -- whatever such a plan answers and leaves is this answer, and these bytes at the sheet's front
+  -- whatever is answered and left as a plan promises, on a shelf of the rig's shape that has room, is just that
   pub always :
       (m n : Meaning) (old new : List ℕ) (answer : Result Plan PlanFault) → Planned c m old answer n new →
       m.shape ≡ c.settings → Fits (cleared m) (rule c) → length old ≡ bytes →
       (answer ≡ said) × (new ≡ front ++ drop (length front) old)
-  -- a flat shelf has room
+  -- and there is room on a new flat shelf, and on a new diagram shelf with 512 node slots
   pub flat : Fits (cleared (flat_opened c.settings)) (rule c)
+  pub diagram : Fits (cleared (diagram_opened c.settings 512)) (rule c)
 
 pub data Case : Type 0 where
-  -- a plan
-  plan : Contents → ℕ → Result Plan PlanFault → List ℕ → Case
-  -- a run of accepted performs leads to a wanted scene, and takes so long
-  run : Contents → List ℕ → ℕ → Case
-  -- the file of a rig has so many bytes, and its devices, scene and moves begin there
+  -- a file's length, and the offsets of its devices, scene and moves
   file : Contents → ℕ → List ℕ → Case
-  -- a call on a rig is answered so
+  -- a plan with a sheet of so many bytes: its answer, and the sheet's front
+  plan : Contents → ℕ → Result Plan PlanFault → List ℕ → Case
+  -- a run of accepted performs to a wanted scene, and its time
+  run : Contents → List ℕ → ℕ → Case
+  -- the other calls on a rig, each with its answer; retime is called on each slot
   perform : Contents → ℕ → Result ℕ ℕ → Case
   withdraw : Contents → ℕ → Result (Unit {0}) ℕ → Case
   want : Contents → List ℕ → Result ℕ ℕ → Case
-  -- so is retiming any of its slots
   retime : Contents → ℕ → List Surcharge → Result (Unit {0}) ℕ → Case
-  -- so is a dial, onto any peg of a new diagram shelf that has so many node slots
+  -- a dial on a new diagram shelf of a shape and so many node slots: the device, the entries for its settings, the answer
   dial : Shape → ℕ → ℕ → List Time → Result (Unit {0}) ℕ → Case
 
 abbrev pub Holds : Case → Type 0
+Holds (file c many offsets) = (length (rig.file c) ≡ many) × (take 6 (drop 4 (rig.file c)) ≡ flat_map two offsets)
 Holds (plan c bytes said front) = Plans c bytes said front
 Holds (run c moves tenths) = Way c moves tenths
-Holds (file c many offsets) = (length (rig.file c) ≡ many) × (take 6 (drop 4 (rig.file c)) ≡ flat_map two offsets)
 Holds (perform c n said) = performs c n ≡ said
 Holds (withdraw c n said) = withdraws c n ≡ said
 Holds (want c masks said) = (wants c masks ≡ said) × CountsWanted c masks said
 Holds (retime c base xs said) = (n : ℕ) → n < length c.slots → retimes c n base xs ≡ said
 Holds (dial ns slots v es said) =
-    (diagram_opens ns slots ≡ Ok tt) × ((p : ℕ) → p < peg_count → shelf.does (diagram_opened ns slots) (shelf.dial p v es) ≡ said)
+    (diagram_opens ns slots ≡ Ok tt)
+    × ((p : ℕ) (unread : List Time) → p < peg_count → shelf.does (diagram_opened ns slots) (shelf.dial p v (es ++ unread)) ≡ said)

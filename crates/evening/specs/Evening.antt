@@ -1,25 +1,36 @@
 -- The cases of the worked evening. Assumes nothing.
 use Rattle.std.specs.Prelude.{List, [], ◌∷◌, Some, Ok, Err}
 use Rattle.model.specs.Moves.{Surcharge}
-use Rattle.model.specs.Calls.{performed, withdrawn}
+use Rattle.model.specs.Calls.{performed, withdrawn, wanting}
+use Rattle.planner.specs.declared.answer.Plan.TheVariants.{Way, NoWay}
+use Rattle.steps.specs.declared.fault.PlanFault.TheVariants.{SheetShort}
 use Rattle.format.specs.Evening.{evening}
-use Rattle.evening.specs.Cases.{Case, file, perform, withdraw, want, retime, dial}
+use Rattle.evening.specs.Cases.{Case, file, plan, run, perform, withdraw, want, retime, dial}
 
 -- an extra of 1 while the lamp is on
 abbrev pub one_more : Surcharge
 one_more = record { tests = record { device = 0; setting = 1 } ∷ []; extra = 1 }
 
+-- the program's sheet has 4,096 bytes
 abbrev pub cases : List Case
 cases =
     file evening 89 (12 ∷ 30 ∷ 34 ∷ [])
+    -- a way: moves, tenths, rounds
+    ∷ plan evening 4096 (Ok (Way 3 55 2)) (0 ∷ 1 ∷ 2 ∷ [])
+    ∷ run evening (0 ∷ 3 ∷ []) 55
+    ∷ plan evening 2 (Err (SheetShort 3)) []
+    ∷ plan evening 3 (Ok (Way 3 55 2)) (0 ∷ 1 ∷ 2 ∷ [])
     ∷ perform evening 0 (Ok 15)
     ∷ perform (performed evening 0) 0 (Err 12)
     ∷ withdraw evening 0 (Ok tt)
+    ∷ plan (withdrawn evening 0) 4096 (Ok (Way 1 90 1)) (3 ∷ [])
     ∷ withdraw evening 2 (Ok tt)
     ∷ withdraw (withdrawn evening 2) 3 (Ok tt)
+    ∷ plan (withdrawn (withdrawn evening 2) 3) 4096 (Ok (NoWay 0)) []
     ∷ want evening (3 ∷ 8 ∷ []) (Err 13)
     ∷ want evening (3 ∷ 0 ∷ []) (Err 13)
     ∷ want evening (3 ∷ 7 ∷ []) (Ok 6)
+    ∷ plan (wanting evening (3 ∷ 7 ∷ [])) 4096 (Ok (Way 0 0 0)) []
     ∷ retime evening 65535 [] (Ok tt)
     ∷ retime evening 65535 (one_more ∷ []) (Err 11)
     ∷ dial (2 ∷ 3 ∷ 2 ∷ []) 3 0 (Some 0 ∷ Some 5 ∷ []) (Ok tt)
