@@ -35,24 +35,67 @@ two_slots p unread = each_below (Dials unread 2 (Err 18)) 8 (refl, (refl, (refl,
 
 pub all_hold : AllByRecursion Holds cases
 unfolding lib.Count.ones
-all_hold =
-    ((refl, refl),
-    (planned,
-    (other_way,
-    (short_sheet,
-    (sheet_of_3,
-    (refl,
-    (refl,
-    (refl,
-    (without_0,
-    (refl,
-    (refl,
-    (without_2_3,
-    ((refl, tt),
-    ((refl, tt),
-    ((refl, refl),
-    (all_wanted,
-    (long_base,
-    (too_long,
-    ((refl, three_slots),
-    ((refl, two_slots), tt))))))))))))))))))))
+all_hold = (
+  (refl, refl),
+  (
+    planned,
+    (
+      other_way,
+      (
+        short_sheet,
+        (
+          sheet_of_3,
+          (
+            refl,
+            (
+              refl,
+              (
+                refl,
+                (
+                  refl,
+                  (
+                    refl,
+                    (
+                      without_0,
+                      (
+                        refl,
+                        (
+                          refl,
+                          (
+                            without_2_3,
+                            (
+                              (refl, tt),
+                              (
+                                (refl, tt),
+                                (
+                                  (refl, refl),
+                                  (
+                                    all_wanted,
+                                    (
+                                      long_base,
+                                      (
+                                        too_long,
+                                        (
+                                          (refl, three_slots),
+                                          ((refl, two_slots), tt),
+                                        ),
+                                      ),
+                                    ),
+                                  ),
+                                ),
+                              ),
+                            ),
+                          ),
+                        ),
+                      ),
+                    ),
+                  ),
+                ),
+              ),
+            ),
+          ),
+        ),
+      ),
+    ),
+  ),
+)

@@ -1,6 +1,6 @@
 -- The plans of the worked evening. Assumes nothing.
-use Rattle.std.proofs.Common.{◌≡◌, ℕ, ◌<◌, true, List, [], ◌∷◌, Some, None, Ok, Err, Result, refl, ◌∙◌, subst, arith}
-use Rattle.model.specs.Contents.{Contents, slot}
+use Rattle.std.proofs.Common.{◌≡◌, true, [], ◌∷◌, Ok, Err, refl, arith}
+use Rattle.model.specs.Contents.{slot}
 use Rattle.model.specs.Calls.{Lawful, lawful_slot, withdrawn, wanting}
 use Rattle.theory.specs.Performing.{Way}
 use Rattle.theory.specs.Ways.{Best}
@@ -11,13 +11,11 @@ use Rattle.theory.proofs.Keeping.{calls_keep}
 use Rattle.theory.proofs.Performing.{ways_are_runs}
 use Rattle.evening.specs.Cases.{Plans}
 use Rattle.evening.proofs.Numbers.{each_below}
-use Rattle.evening.proofs.Found.{best_by, none_by, way_plans, short_plans, none_plans}
+use Rattle.evening.proofs.Plans.{way_plans, short_plans, none_plans}
+use Rattle.evening.proofs.Ways.{best_by, none_by}
 
 lawful : Lawful evening
 lawful = record { opens = refl; wants = refl; moves = each_below (λ k. lawful_slot evening.settings (slot evening k) ≡ true) 4 (refl, (refl, (refl, (refl, tt)))) }
-
-without : (c : Contents) → Lawful c → (n : ℕ) → Lawful (withdrawn c n)
-without c law n = (calls_keep c law).withdraw n
 
 best : Best evening (0 ∷ 1 ∷ 2 ∷ []) 55
 best = best_by evening lawful 55 refl
@@ -35,10 +33,17 @@ pub other_way : Way evening (0 ∷ 3 ∷ []) 55
 other_way = (ways_are_runs evening (0 ∷ 3 ∷ []) 55).1 (_, refl, refl, 40, (_, refl, refl, 0, (refl, refl), refl), refl)
 
 pub without_0 : Plans (withdrawn evening 0) 4096 (Ok (plan.Way 1 90 1)) (3 ∷ [])
-without_0 = way_plans (withdrawn evening 0) 4096 90 (3 ∷ []) (omega arith) (best_by (withdrawn evening 0) (without evening lawful 0) 90 refl) (omega arith)
+without_0 =
+    let c = withdrawn evening 0 in
+    way_plans c 4096 90 (3 ∷ []) (omega arith) (best_by c ((calls_keep evening lawful).withdraw 0) 90 refl) (omega arith)
 
 pub without_2_3 : Plans (withdrawn (withdrawn evening 2) 3) 4096 (Ok (plan.NoWay 0)) []
-without_2_3 = none_plans (withdrawn (withdrawn evening 2) 3) 4096 (omega arith) (none_by (withdrawn (withdrawn evening 2) 3) (without (withdrawn evening 2) (without evening lawful 2) 3) refl)
+without_2_3 =
+    let c = withdrawn (withdrawn evening 2) 3 in
+    let law : Lawful (withdrawn evening 2) = (calls_keep evening lawful).withdraw 2 in
+    none_plans c 4096 (omega arith) (none_by c ((calls_keep (withdrawn evening 2) law).withdraw 3) refl)
 
 pub all_wanted : Plans (wanting evening (3 ∷ 7 ∷ [])) 4096 (Ok (plan.Way 0 0 0)) []
-all_wanted = way_plans (wanting evening (3 ∷ 7 ∷ [])) 4096 0 [] (omega arith) (best_by (wanting evening (3 ∷ 7 ∷ [])) ((calls_keep evening lawful).want (3 ∷ 7 ∷ [])) 0 refl) (omega arith)
+all_wanted =
+    let c = wanting evening (3 ∷ 7 ∷ []) in
+    way_plans c 4096 0 [] (omega arith) (best_by c ((calls_keep evening lawful).want (3 ∷ 7 ∷ [])) 0 refl) (omega arith)

@@ -1,11 +1,11 @@
 -- Shelves with room for whatever the rule hangs. Assumes nothing.
-use Rattle.std.proofs.Common.{◌≡◌, ℕ, zero, suc, ◌+◌, ◌*◌, ◌≤◌, Bool, true, false, cond, List, [], ◌∷◌, length, drop, Some, None, Option, refl, ap, ◌∙◌, arith}
+use Rattle.std.proofs.Common.{◌≡◌, ℕ, zero, suc, ◌+◌, ◌*◌, ◌≤◌, Bool, true, false, cond, List, [], ◌∷◌, length, drop, Some, None, refl, ap, ◌∙◌, arith}
 use Rattle.std.proofs.lemmas.Bool.{le-ltb}
 use Rattle.std.proofs.lemmas.Nat.{mul-le}
 use Rattle.std.proofs.lemmas.List.{length-set, length-append}
 use Rattle.std.specs.List.{flat_map}
 use Rattle.model.specs.Lists.{some}
-use Rattle.model.specs.Parts.{Part, same_part, different, pieces, parts}
+use Rattle.model.specs.Parts.{same_part, different, pieces, parts}
 use Rattle.model.specs.Scenes.{Shape, size}
 use Rattle.model.specs.Charts.{Chart}
 use Rattle.model.specs.Shelves.{Pegs, Call, charts, diagram_fill, target, hung, after}

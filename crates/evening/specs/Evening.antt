@@ -22,6 +22,8 @@ cases =
     ∷ plan evening 3 (Ok (Way 3 55 2)) (0 ∷ 1 ∷ 2 ∷ [])
     ∷ perform evening 0 (Ok 15)
     ∷ perform (performed evening 0) 0 (Err 12)
+    ∷ perform (performed evening 0) 1 (Ok 20)
+    ∷ perform (performed (performed evening 0) 1) 2 (Ok 20)
     ∷ withdraw evening 0 (Ok tt)
     ∷ plan (withdrawn evening 0) 4096 (Ok (Way 1 90 1)) (3 ∷ [])
     ∷ withdraw evening 2 (Ok tt)
