@@ -10,12 +10,12 @@ use Rattle.format.specs.Evening.{evening}
 use Rattle.theory.proofs.Keeping.{calls_keep}
 use Rattle.theory.proofs.Performing.{ways_are_runs}
 use Rattle.evening.specs.Cases.{Plans}
-use Rattle.evening.proofs.Numbers.{each_below}
+use Rattle.evening.proofs.Each.{◌&◌, each_below}
 use Rattle.evening.proofs.Plans.{way_plans, short_plans, none_plans}
 use Rattle.evening.proofs.Ways.{best_by, none_by}
 
 lawful : Lawful evening
-lawful = record { opens = refl; wants = refl; moves = each_below (λ k. lawful_slot evening.settings (slot evening k) ≡ true) 4 (refl, (refl, (refl, (refl, tt)))) }
+lawful = record { opens = refl; wants = refl; moves = each_below (λ k. lawful_slot evening.settings (slot evening k) ≡ true) 4 (refl & refl & refl & refl & tt) }
 
 best : Best evening (0 ∷ 1 ∷ 2 ∷ []) 55
 best = best_by evening lawful 55 refl

@@ -1,6 +1,6 @@
--- what holds of each number below one: Numbers; shelves with room: Rooms; what a plan must answer: Plans; the best way by
+-- what holds of each of several: Each; shelves with room: Rooms; what a plan must answer: Plans; the best way by
 -- the times that the rule leaves: Ways; the plans of the evening: Evening; its list of cases: Cases
-pub mod Numbers
+pub mod Each
 pub mod Rooms
 pub mod Plans
 pub mod Ways

@@ -1,6 +1,12 @@
--- What holds of each number below one, number by number. Assumes nothing.
+-- What holds of each of several, one after another. Assumes nothing.
 use Rattle.std.proofs.Common.{ℕ, zero, suc, ◌<◌, arith}
 
+infixr 20 ◌&◌
+-- of the first, and of those after it
+abbrev pub ◌&◌ : {P Q : Type 0} → P → Q → P × Q
+p & q = (p, q)
+
+-- of each number below n
 abbrev pub EachBelow : (ℕ → Type 0) → ℕ → Type 0
 EachBelow P zero = Unit {0}
 EachBelow P (suc n) = P 0 × EachBelow (λ k. P (suc k)) n
