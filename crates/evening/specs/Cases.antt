@@ -10,6 +10,7 @@ use Rattle.model.specs.Calls.{withdraws, performs, wants, retimes, CountsWanted}
 use Rattle.model.specs.Shelves as shelf
 use Rattle.model.specs.Shelves.{Meaning, flat_opened}
 use Rattle.theory.specs.Performing.{Way}
+use Rattle.theory.specs.Alike.{Alike}
 use Rattle.rule.specs.Running.{Fits}
 use Rattle.rule.specs.Rule.{rule}
 use Rattle.steps.specs.declared.fault.PlanFault.{PlanFault}
@@ -19,16 +20,20 @@ use Rattle.diagram.specs.Openings.{diagram_opens, diagram_opened}
 use Rattle.format.specs.Bytes.{two}
 use Rattle.format.specs.Files as rig
 
--- a plan of contents c, with a sheet of so many bytes, says this and leaves these bytes at the sheet's front
+-- a plan of contents c with a sheet of so many bytes says this, and leaves these bytes at the sheet's front
 pub record Plans (c : Contents) (bytes : ℕ) (said : Result Plan PlanFault) (front : List ℕ) : Type 0 where
-  -- whatever is answered and left as a plan promises, on a shelf of the rig's shape that has room, is just that
+  -- on every shelf of the rig's shape that has room, whatever it carries, this is what a plan's promises leave
   pub always :
       (m n : Meaning) (old new : List ℕ) (answer : Result Plan PlanFault) → Planned c m old answer n new →
       m.shape ≡ c.settings → Fits (cleared m) (rule c) → length old ≡ bytes →
       (answer ≡ said) × (new ≡ front ++ drop (length front) old)
-  -- and there is room on a new flat shelf, and on a new diagram shelf with 512 node slots
+  -- a new flat shelf has room, and so has a new diagram shelf with 512 node slots
   pub flat : Fits (cleared (flat_opened c.settings)) (rule c)
   pub diagram : Fits (cleared (diagram_opened c.settings 512)) (rule c)
+
+-- and so does a plan of any contents that are alike, as with further slots that are vacant
+abbrev pub PlansAlike : Contents → ℕ → Result Plan PlanFault → List ℕ → Type 0
+PlansAlike c bytes said front = (d : Contents) → Alike c d → c.settings ≡ d.settings → Plans d bytes said front
 
 pub data Case : Type 0 where
   -- a file's length, and the offsets of its devices, scene and moves
@@ -47,7 +52,7 @@ pub data Case : Type 0 where
 
 abbrev pub Holds : Case → Type 0
 Holds (file c many offsets) = (length (rig.file c) ≡ many) × (take 6 (drop 4 (rig.file c)) ≡ flat_map two offsets)
-Holds (plan c bytes said front) = Plans c bytes said front
+Holds (plan c bytes said front) = PlansAlike c bytes said front
 Holds (run c moves tenths) = Way c moves tenths
 Holds (perform c n said) = performs c n ≡ said
 Holds (withdraw c n said) = withdraws c n ≡ said
