@@ -36,8 +36,7 @@ two_slots p unread = each_below (Dials unread 2 (Err 18)) 8 (refl & refl & refl 
 pub all_hold : AllByRecursion Holds cases
 unfolding lib.Count.ones
 all_hold =
-    (refl, refl)
-    & planned & other_way
+    planned & other_way & (refl, refl)
     & short_sheet & sheet_of_3
     & refl & refl & refl & refl
     & refl & without_0
