@@ -7,6 +7,7 @@ use crate::diagram_shelf::DiagramShelf;
 use crate::open_fault::OpenFault;
 use build::node_store::NodeStore;
 use hang::charts::Charts;
+use hang::charts::retry::LEAST_LIMIT;
 use lists::counts::shape_off;
 use lists::limits::{MOST_DEVICES, MOST_NODES, PEGS};
 use lists::short::Short;
@@ -39,10 +40,11 @@ impl DiagramShelf {
         let store = NodeStore::of(counts, vec![in heap; None; slots]?);
         let spare = NodeStore::of(counts, vec![in heap; None; slots]?);
         let moved = vec![in heap; None; slots]?;
-        let diagrams = Diagrams::of(store, vec![in heap; None; slots]?);
+        let diagrams = Diagrams::of(store, vec![in heap; None; 2 * slots]?);
         let charts = Charts {
             diagrams,
             pegs: [None; PEGS],
+            limit: LEAST_LIMIT,
         };
         Ok(DiagramShelf {
             charts,
