@@ -7,6 +7,7 @@ mod entries;
 pub mod fault;
 mod front;
 mod pairs;
+pub mod promises;
 pub mod read;
 mod sizes;
 mod taker;
