@@ -136,7 +136,7 @@ fn words_of_a_refused_read(rt: HostRuntime) -> Result<(), Fail> {
     };
     assert_eq!(rt;
         fault.to_string(rt.alloc())?.as_str(),
-        "refused 11: the move that begins at byte 44 cannot be added; correct it, or read into a longer table"
+        "refused 11: base and extras are at least 1, and together at most 65535\nwhere: in the move that begins at byte 44\nwhat would help: another move there, or a longer table of slots if it is the number that is too high"
     );
     Ok(())
 }
