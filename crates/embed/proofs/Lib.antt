@@ -1,0 +1,2 @@
+-- lemmas about runs of performs: Runs
+pub mod Runs
