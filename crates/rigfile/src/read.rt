@@ -19,6 +19,7 @@ impl Front<'_> {
         ensures answer { Filled self.now (contents rig.old) result (contents rig.new) }
         ensures as_many { length (contents rig.new).slots ≡ length (contents rig.old).slots }
     {
+        let total = usize::from(self.total);
         rig.want(self.masks).map_err(ReadFault::NotWanted)?;
         let here = paired(self.moves).ok_or(ReadFault::BadFrame)?;
         let next = paired(past(self.moves, 1)).ok_or(ReadFault::BadFrame)?;
@@ -27,7 +28,7 @@ impl Front<'_> {
             here: here.as_slice(),
             next: next.as_slice(),
         };
-        taker.add_all(self.count, usize::from(self.total), rig)
+        taker.add_all(self.count, total, rig)
     }
 
     /// Takes the parts of a file into a table of slots.

@@ -50,9 +50,9 @@ impl<'a> Taker<'a> {
         ensures { Gives (λ ps. length ps ≡ count) (λ ps. pairs_of ps.now) (flat_map pair) result self.old self.new }
     {
         let count = usize::from(count);
-        let pairs = self.here.get(..count)?;
+        let (pairs, here) = self.here.split_at_checked(count)?;
         self.reader.skip(2 * count)?;
-        self.here = past(self.here, count);
+        self.here = here;
         self.next = past(self.next, count);
         Some(pairs)
     }
