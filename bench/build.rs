@@ -12,15 +12,15 @@ fn toolchain_c() -> Option<PathBuf> {
 
 fn main() {
     println!("cargo:rustc-check-cfg=cfg(library)");
-    println!("cargo:rerun-if-changed=../crates/probe/out/libprobe.a");
-    let out = Path::new("../crates/probe/out");
-    let Some(c) = toolchain_c().filter(|_| out.join("libprobe.a").is_file()) else {
+    println!("cargo:rerun-if-changed=../crates/embed/out/libembed.a");
+    let out = Path::new("../crates/embed/out");
+    let Some(c) = toolchain_c().filter(|_| out.join("libembed.a").is_file()) else {
         println!("cargo:warning=the library is not built: run `rt lib` in crates/embed");
         return;
     };
     println!("cargo:rustc-cfg=library");
     println!("cargo:rustc-link-search=native={}", out.canonicalize().expect("a folder").display());
     println!("cargo:rustc-link-search=native={}", c.display());
-    println!("cargo:rustc-link-lib=static=probe");
+    println!("cargo:rustc-link-lib=static=embed");
     println!("cargo:rustc-link-lib=static=libc_c");
 }

@@ -19,7 +19,7 @@ fn narrow(rig: &Rig, file: &[u8]) -> bool {
         let mut shelf = Diagrams::of(rig, Capacity::Slots(slots));
         let expected = rule::plan(rig, &mut shelf);
         full += u32::from(matches!(expected, Answer::NoRoom { .. }));
-        if let Some(answer) = library(rig, file, On::Nodes(slots)) {
+        if let Some(answer) = library(file, On::Nodes(slots)) {
             same(rig, &format!("the library on {slots} slots"), &answer, &expected);
         }
     }
@@ -38,7 +38,7 @@ fn one(rig: &Rig) -> bool {
     }
     assert!(expected.agrees(&search::plan(rig)), "the forward search differs on {rig:?}");
     for on in [On::Nodes(65_535), On::Cells] {
-        if let Some(answer) = library(rig, &file, on) {
+        if let Some(answer) = library(&file, on) {
             same(rig, "the library", &answer, &expected);
         }
     }
@@ -49,7 +49,7 @@ fn one(rig: &Rig) -> bool {
 /// Everyone on random rigs; answers in words how many there were.
 pub fn check(rigs: u64) -> String {
     let ways = (0..rigs).filter(|seed| one(&random(*seed))).count();
-    let linked = library(&random(0), &random(0).file(), On::Cells).is_some();
+    let linked = library(&random(0).file(), On::Cells).is_some();
     let who = if linked { "the library and the unverified Rust" } else { "the unverified Rust (the library is not linked)" };
-    format!("{rigs} random rigs, {ways} with a way: {who} agree in verdict, time, moves and rounds, and in the round in which too few slots run full.")
+    format!("{rigs} random rigs, {ways} with a way: {who} agree in verdict, time, moves and rounds, and in the round and the move at which too few slots run full.")
 }

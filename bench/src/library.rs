@@ -1,6 +1,5 @@
 //! The proved library, through its C interface.
 use crate::answer::Answer;
-use crate::rig::Rig;
 
 /// On which shelf the library plans.
 #[derive(Clone, Copy)]
@@ -15,34 +14,47 @@ pub enum On {
 mod linked {
     use super::*;
 
-    /// `struct zomraey_planned` of `include/zomraey.h`.
+    /// `struct zomraey_plan_answer` of `include/zomraey.h`.
     #[repr(C)]
-    struct Planned {
-        verdict: u64,
-        moves: u64,
+    struct PlanAnswer {
+        verdict: u8,
+        refusal: u8,
+        call: u8,
+        target: u8,
+        first: u8,
+        second: u8,
+        third: u8,
+        in_move: bool,
+        number: u8,
+        moves: usize,
         time: u64,
         rounds: u64,
-        number: u64,
+        byte: usize,
     }
 
     extern "C" {
-        fn probe_plan(file: *const u8, len: usize, nodes: usize, cells: usize, sheet: *mut u8, room: usize) -> Planned;
+        fn zomraey_plan(file: *const u8, len: usize, nodes: usize, sheet: *mut u8, room: usize) -> PlanAnswer;
+        fn zomraey_plan_flat(file: *const u8, len: usize, sheet: *mut u8, room: usize) -> PlanAnswer;
+    }
+
+    fn call(file: &[u8], on: On, sheet: &mut [u8]) -> PlanAnswer {
+        let (from, len, to, room) = (file.as_ptr(), file.len(), sheet.as_mut_ptr(), sheet.len());
+        // The pointers and lengths are those of two slices that live through the call.
+        match on {
+            On::Nodes(nodes) => unsafe { zomraey_plan(from, len, nodes, to, room) },
+            On::Cells => unsafe { zomraey_plan_flat(from, len, to, room) },
+        }
     }
 
     /// What the library says of the rig in a file.
-    pub fn plan(rig: &Rig, file: &[u8], on: On) -> Option<Answer> {
+    pub fn plan(file: &[u8], on: On) -> Option<Answer> {
         let mut sheet = [0; 4096];
-        let (nodes, cells) = match on {
-            On::Nodes(nodes) => (nodes, 0),
-            On::Cells => (0, 8 * rig.scenes() as usize),
-        };
-        // The pointers and lengths are those of two slices that live through the call.
-        let said = unsafe { probe_plan(file.as_ptr(), file.len(), nodes, cells, sheet.as_mut_ptr(), sheet.len()) };
+        let said = call(file, on, &mut sheet);
         Some(match said.verdict {
-            0 => Answer::Way { moves: sheet[..said.moves as usize].to_vec(), time: said.time, rounds: said.rounds },
+            0 => Answer::Way { moves: sheet[..said.moves].to_vec(), time: said.time, rounds: said.rounds },
             1 => Answer::NoWay { rounds: said.rounds },
-            _ if said.number == 18 => Answer::NoRoom { round: said.rounds },
-            _ => Answer::Refused(said.number),
+            _ if said.refusal == 18 => Answer::NoRoom { round: said.rounds, number: said.in_move.then_some(said.number) },
+            _ => Answer::Refused(said.refusal),
         })
     }
 }
@@ -52,6 +64,6 @@ pub use linked::plan;
 
 /// Nothing: the library is not linked.
 #[cfg(not(library))]
-pub fn plan(_rig: &Rig, _file: &[u8], _on: On) -> Option<Answer> {
+pub fn plan(_file: &[u8], _on: On) -> Option<Answer> {
     None
 }

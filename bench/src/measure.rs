@@ -58,8 +58,8 @@ impl Race<'_> {
 
     /// The library, where it is linked and there is room.
     fn library(&self, room: bool, on: On) -> Option<f64> {
-        library(self.rig, &self.file, On::Nodes(1))?;
-        room.then(|| self.ratio("the library", || library(self.rig, &self.file, on).expect("it is linked")))
+        library(&self.file, On::Nodes(1))?;
+        room.then(|| self.ratio("the library", || library(&self.file, on).expect("it is linked")))
     }
 
     fn search(&self) -> f64 {

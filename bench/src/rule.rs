@@ -69,11 +69,13 @@ fn lower<S: Shelf>(shelf: &mut S, entry: &Move) -> Result<(), Full> {
     shelf.cheaper(1, 1, 2)
 }
 
-fn round<S: Shelf>(shelf: &mut S, moves: &[Move]) -> Result<(), Full> {
+fn round<S: Shelf>(shelf: &mut S, moves: &[Move], number: &mut Option<u8>) -> Result<(), Full> {
     shelf.cheaper(1, 0, 0)?;
-    for entry in moves {
+    for (i, entry) in moves.iter().enumerate() {
+        *number = Some(i as u8);
         lower(shelf, entry)?;
     }
+    *number = None;
     Ok(())
 }
 
@@ -97,11 +99,18 @@ pub fn walk(rig: &Rig, time_from: impl Fn(&Scene) -> u64) -> Vec<u8> {
     run
 }
 
-fn iterate<S: Shelf>(rig: &Rig, shelf: &mut S, number: &mut u64) -> Result<(), Full> {
+/// Where the rule is: the round, and the move that is worked on, if one is.
+#[derive(Default)]
+struct Place {
+    round: u64,
+    number: Option<u8>,
+}
+
+fn iterate<S: Shelf>(rig: &Rig, shelf: &mut S, place: &mut Place) -> Result<(), Full> {
     round_0(shelf, &rig.masks)?;
     loop {
-        *number += 1;
-        round(shelf, &rig.moves)?;
+        place.round += 1;
+        round(shelf, &rig.moves, &mut place.number)?;
         if shelf.same(0, 1) {
             return Ok(());
         }
@@ -111,11 +120,11 @@ fn iterate<S: Shelf>(rig: &Rig, shelf: &mut S, number: &mut u64) -> Result<(), F
 
 /// Plans by the rule.
 pub fn plan<S: Shelf>(rig: &Rig, shelf: &mut S) -> Answer {
-    let mut number = 0;
-    if iterate(rig, shelf, &mut number).is_err() {
-        return Answer::NoRoom { round: number };
+    let mut place = Place::default();
+    if iterate(rig, shelf, &mut place).is_err() {
+        return Answer::NoRoom { round: place.round, number: place.number };
     }
-    let rounds = number - 1;
+    let rounds = place.round - 1;
     match shelf.at(0, &rig.scene) {
         NEVER => Answer::NoWay { rounds },
         time => {

@@ -1,7 +1,6 @@
 //! The library for callers in C: rigs come as files, moves and files go into buffers, answers are numbers.
 #![tactic(auto)]
 
-mod decode;
 mod files;
 mod performing;
 mod planning;

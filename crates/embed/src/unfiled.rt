@@ -1,3 +1,9 @@
+ghost use Rattle.std.specs.Prelude.{◌≡◌};
+ghost use Rattle.rigfile.specs.Reading.{untaken};
+ghost use Rattle.embed.specs.declared.unfiled.Unfiled.TheVariants.{Refused};
+
+use rigfile::unread::ReadFault;
+
 /// Why a file gives no rig.
 #[derive(Clone, Copy, PartialEq, Eq, Debug)]
 pub enum Unfiled {
@@ -8,4 +14,15 @@ pub enum Unfiled {
         number: u8,
         byte: usize,
     },
+}
+
+impl From<ReadFault> for Unfiled {
+    ghost from_gives = { λ x y. y ≡ Refused (untaken x).number (untaken x).byte };
+
+    fn from(fault: ReadFault) -> Unfiled {
+        Unfiled::Refused {
+            number: fault.number(),
+            byte: fault.byte(),
+        }
+    }
 }
