@@ -1,0 +1,5 @@
+pub mod Reads
+pub mod Opens
+pub mod Plans
+pub mod Files
+pub mod Told
