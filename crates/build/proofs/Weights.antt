@@ -42,6 +42,18 @@ map_edge_id : (es : List Edge) → map (lower_by None) es ≡ es
 map_edge_id [] = refl
 map_edge_id (e ∷ es) = ap (λ t. e ∷ t) (map_edge_id es)
 
+less_zero : (w : Time) → less (Some 0) w ≡ w
+less_zero None = refl
+less_zero (Some y) = ap {B = Time} Some (omega arith)
+
+-- by nothing
+pub lower_zero : (es : List Edge) → map (lower_by (Some 0)) es ≡ es
+lower_zero [] = refl
+lower_zero (e ∷ es) =
+    let p = less_zero e.weight in
+    let q = lower_zero es in
+    λ i. record { weight = p i; child = e.child } ∷ q i
+
 -- lowered by the lowest, the lowest is 0, or there is none
 pub lowest_lowered : (m : Time) (es : List Edge) → lowest es ≡ m → lowest (map (lower_by m) es) ≡ zeroed m
 lowest_lowered None es h = ap lowest (map_edge_id es) ∙ h

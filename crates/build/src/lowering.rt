@@ -29,5 +29,8 @@ fn lower(e: Edge, by: Option<u64>) -> Edge
 pub fn lower_all(kids: [Edge; 8], by: Option<u64>) -> [Edge; 8]
     ensures { result ≡ map (lower_by by) kids }
 {
+    if by == Some(0) {
+        return kids;
+    }
     kids.map(|kid| lower(kid, by))
 }

@@ -1,11 +1,11 @@
-ghost use Rattle.std.specs.Prelude.{◌≡◌, ◌≤◌, false, length, drop, Some};
+ghost use Rattle.std.specs.Prelude.{◌≡◌, ◌≤◌, false, length, drop, Some, None, MatchOption};
+ghost use Rattle.table.specs.Tables.{slot};
 ghost use Rattle.model.specs.Charts.{plus, late};
 ghost use Rattle.store.specs.Stores as stores;
 ghost use Rattle.build.specs.Builds.{raised};
 
 use nodes::edge::{Edge, NEVER};
 use nodes::node::Node;
-use table::slots::taken;
 use times::plus;
 
 /// A node without times.
@@ -15,20 +15,23 @@ const NO_NODE: Node = Node {
     edges: [NEVER; 8],
 };
 
+/// The node in a slot where it stands, if there is one.
+// Lent, since a node is long: a copy is made only where the store changes while the node is looked at.
+pub fn seen_at(nodes: &[Option<Node>], i: u16) -> Option<&Node>
+    ensures { MatchOption result (slot nodes.now i ≡ None) (λ node. slot nodes.now i ≡ Some node.now) }
+{
+    nodes.get(usize::from(i))?.as_ref()
+}
+
 /// The node in a slot; a free slot stands for a node without times.
 // Of a slice, as the next three: `make` asks while the store has lent its slots, the collector where it has slots alone.
 pub fn node_at(nodes: &[Option<Node>], i: u16) -> Node
     ensures { result ≡ stores.node_at nodes.now i }
 {
-    taken(nodes, usize::from(i)).unwrap_or(NO_NODE)
-}
-
-/// The greatest time below the node in a slot.
-// Not by `node_at`, which copies the node.
-fn most_at(nodes: &[Option<Node>], i: u16) -> Option<u64>
-    ensures { result ≡ (stores.node_at nodes.now i).most }
-{
-    nodes.get(usize::from(i))?.as_ref()?.most
+    match seen_at(nodes, i) {
+        Some(node) => *node,
+        None => NO_NODE,
+    }
 }
 
 /// The greatest time below an edge that leads to a level, its weight apart.
@@ -37,10 +40,9 @@ fn below(nodes: &[Option<Node>], settings: &[u8], level: usize, e: Edge) -> Opti
     ensures { result ≡ stores.below nodes.now (drop level settings.now) e }
 {
     if level == settings.len() {
-        Some(0)
-    } else {
-        most_at(nodes, e.child)
+        return Some(0);
     }
+    seen_at(nodes, e.child)?.most
 }
 
 /// The greatest time of an edge.

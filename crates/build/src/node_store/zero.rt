@@ -5,6 +5,7 @@ ghost use Rattle.build.specs.Grew.{nodes_in, shape_in};
 ghost use Rattle.build.specs.Zeros.{Zero};
 
 use crate::node_store::NodeStore;
+use crate::reach::seen_at;
 use nodes::edge::Edge;
 
 /// Whether all these edges are the same as `edge`.
@@ -28,7 +29,9 @@ impl NodeStore {
         if level == self.devices() {
             return true;
         }
-        let node = self.node_at(e.child);
+        let Some(node) = seen_at(self.as_slice(), e.child) else {
+            return false;
+        };
         let first = node.edges[0];
         are_all(&node.edges[..self.count(level)], first) && self.is_zero(level + 1, first)
     }
