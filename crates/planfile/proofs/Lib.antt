@@ -1,0 +1,3 @@
+-- lemmas about moves performed one after another: Steps; about an input read whole: Feeding; about what is told: Saying
+pub mod Steps
+pub mod Feeding
