@@ -1,6 +1,6 @@
 -- An input read up to a limit. Assumes nothing.
 use Rattle.std.proofs.Common.{◌≡◌, ℕ, ◌+◌, ◌≤◌, min, List, [], ◌++◌, length, take, IfSome, Some, None, Option, ap, ◌∙◌, arith}
-use Rattle.core.specs.Option.{option_map}
+use Rattle.std.specs.Option.{option_map}
 use Rattle.std.proofs.lemmas.List.{length-take, take_all}
 
 -- what has no more than the limit was the whole of it

@@ -7,6 +7,7 @@ use crate::limits::MOST_INPUT;
 use std::alloc::Global;
 use std::io::Read;
 
+#[tactic(auto, using(crate::proofs::Feeding::whole))]
 /// All bytes of the input, where it has no more than a limit. At most one byte is read past it.
 pub(crate) fn read_whole<R: Read + Drop>(heap: Global, input: R) -> Result<Vec<u8>, Failure>
     ensures fed { IfSome (R.remaining input) (λ xs. Fed xs result) }
