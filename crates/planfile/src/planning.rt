@@ -1,15 +1,17 @@
 //! A rig planned, and its way performed.
+ghost use Rattle.diagram.specs.Means.{means};
 ghost use Rattle.rig.specs.Rigs.{contents};
 ghost use Rattle.planfile.specs.Telling.{Made, ToldOfCue, Tells};
 
 use crate::failure::Failure;
 use crate::performing::perform_all;
+use diagram::diagram_shelf::DiagramShelf;
 use planner::answer::Plan;
 use report::told::Told;
 use rig::frame::Rig;
 use shelf::calls::Shelf;
 use show::cue::Cue;
-use show::play::call;
+use show::play::play;
 use std::alloc::Global;
 
 /// What is told of a plan that was made: the moves on the sheet are performed, if there is a way.
@@ -42,20 +44,20 @@ fn tell<S: Shelf>(heap: Global, mut rig: Rig, cue: &Cue<S>) -> Result<Told, Fail
     }
 }
 
-/// Plans on a shelf and a sheet, and performs the way, if there is one.
-pub fn plan_rig<S: Shelf + Drop>(
+/// Plans on a shelf and a sheet, as a show of one call, and performs the way, if there is one.
+pub fn plan_rig(
     heap: Global,
     mut rig: Rig,
-    shelf: S,
+    shelf: DiagramShelf,
     sheet: Vec<u8>,
 ) -> Result<Told, Failure>
-    ensures tells { Tells (contents rig) (S.meaning shelf) sheet.items result }
+    ensures tells { Tells (contents rig) (means shelf) sheet.items result }
 {
-    let mut cue = Cue::Plan {
+    let mut cues = [Cue::Plan {
         shelf,
         sheet,
         reply: None,
-    };
-    call(&mut rig, &mut cue);
-    tell(heap, rig, &cue)
+    }];
+    play(&mut rig, &mut cues);
+    tell(heap, rig, &cues[0])
 }
