@@ -2,8 +2,8 @@ ghost use Rattle.std.specs.Prelude.{◌≡◌};
 ghost use Rattle.planfile.specs.Failures.{number as the_number};
 ghost use Rattle.planfile.specs.declared.failure.Failure.TheVariants as failure;
 
-use crate::stand_in::{ReadFault, Unread};
 use diagram::open_fault::OpenFault;
+use rigfile::unread::{ReadFault, Unread};
 use std::alloc::{AllocError, AllocFailed};
 use std::io;
 use steps::fault::PlanFault;

@@ -2,10 +2,10 @@
 #![tactic(auto)]
 
 pub mod failure;
+mod file;
 mod input;
 pub mod limits;
 pub mod outcome;
 mod performing;
 pub mod planning;
-mod stand_in;
 mod words;

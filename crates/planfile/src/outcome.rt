@@ -1,13 +1,10 @@
 //! What comes of a rig file.
-ghost use Rattle.std.specs.Prelude.{◌≡◌, Some};
+ghost use Rattle.std.specs.Prelude.{◌≡◌, Some, IfSome};
+ghost use Rattle.planfile.specs.Coming.{Comes};
 ghost use Rattle.planfile.specs.Outcomes.{outcome_text, status as the_status};
 
 use crate::failure::Failure;
-use crate::input::read_whole;
-use crate::limits::*;
-use crate::planning::plan_rig;
-use crate::stand_in::read;
-use diagram::diagram_shelf::DiagramShelf;
+use crate::file::plan_file;
 use report::told::Told;
 use std::alloc::Global;
 use std::fmt;
@@ -19,25 +16,17 @@ pub struct Outcome {
     pub told: Result<Told, Failure>,
 }
 
-/// Reads a rig file and plans it.
-fn plan_file<R: Read + Drop>(heap: Global, input: R) -> Result<Told, Failure> {
-    let bytes = read_whole(heap, input)?;
-    let slots = vec![in heap; None; MOVE_SLOTS]?;
-    let rig = read(heap, bytes.as_slice(), slots)?;
-    let shelf = DiagramShelf::open(heap, rig.settings(), NODE_SLOTS)?;
-    let sheet = vec![in heap; 0u8; SHEET_LENGTH]?;
-    plan_rig(heap, rig, shelf, sheet)
-}
-
 impl Outcome {
     /// What comes of the rig file that the input holds.
-    pub fn of<R: Read + Drop>(heap: Global, input: R) -> Outcome {
+    pub fn of<R: Read + Drop>(heap: Global, input: R) -> Outcome
+        ensures comes { IfSome (R.remaining input) (λ bytes. Comes bytes result.told) }
+    {
         Outcome {
             told: plan_file(heap, input),
         }
     }
 
-    /// The status that the program ends with: 0 where the plan was told, else 1.
+    /// The status that the program ends with: 0 where a plan is told, else 1.
     pub fn status(&self) -> u8
         ensures value { result ≡ the_status self.now.told }
     {

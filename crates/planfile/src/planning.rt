@@ -1,21 +1,19 @@
 //! A rig planned, and its way performed.
-ghost use Rattle.diagram.specs.Means.{means};
 ghost use Rattle.rig.specs.Rigs.{contents};
 ghost use Rattle.planfile.specs.Telling.{Made, ToldOfCue, Tells};
 
 use crate::failure::Failure;
 use crate::performing::perform_all;
-use diagram::diagram_shelf::DiagramShelf;
 use planner::answer::Plan;
 use report::told::Told;
 use rig::frame::Rig;
 use shelf::calls::Shelf;
 use show::cue::Cue;
-use show::play::play;
+use show::play::call;
 use std::alloc::Global;
 
 /// What is told of a plan that was made: the moves on the sheet are performed, if there is a way.
-fn tell<S: Shelf>(heap: Global, mut rig: Rig, cue: &Cue<S>) -> Result<Told, Failure>
+fn tell<S: Shelf>(heap: Global, mut rig: Rig, cue: &Cue<'_, S>) -> Result<Told, Failure>
     requires made { Made S.meaning (contents rig) cue.now }
     ensures told { ToldOfCue (contents rig) cue.now result }
 {
@@ -44,20 +42,20 @@ fn tell<S: Shelf>(heap: Global, mut rig: Rig, cue: &Cue<S>) -> Result<Told, Fail
     }
 }
 
-/// Plans on a shelf and a sheet, as a show of one call, and performs the way, if there is one.
-pub fn plan_rig(
+/// Plans on a shelf and a sheet, and performs the way, if there is one.
+pub fn plan_rig<S: Shelf + Drop>(
     heap: Global,
     mut rig: Rig,
-    shelf: DiagramShelf,
+    shelf: S,
     sheet: Vec<u8>,
 ) -> Result<Told, Failure>
-    ensures tells { Tells (contents rig) (means shelf) sheet.items result }
+    ensures tells { Tells (contents rig) (S.meaning shelf) sheet.items result }
 {
-    let mut cues = [Cue::Plan {
+    let mut cue = Cue::Plan {
         shelf,
         sheet,
         reply: None,
-    }];
-    play(&mut rig, &mut cues);
-    tell(heap, rig, &cues[0])
+    };
+    call(&mut rig, &mut cue);
+    tell(heap, rig, &cue)
 }

@@ -61,7 +61,7 @@ fn words_of_a_refusal(rt: HostRuntime) -> Result<(), Fail> {
     let words = PlanWords { fault, slots: 512 };
     assert_eq!(rt;
         words.to_string(rt.alloc())?.as_str(),
-        "no room: the charts of the plan need more than the 512 node slots there are\nwhere: the sum of pegs 2 and 3 onto peg 2, in round 4, at move 17\nwhat would help: more node slots, fewer moves or surcharges, or wider masks"
+        "refused 18: no room: the charts of the plan need more than the 512 node slots there are\nwhere: the sum of pegs 2 and 3 onto peg 2, in round 4, at move 17\nwhat would help: more node slots, fewer devices, moves or surcharges, or wider masks"
     );
     Ok(())
 }

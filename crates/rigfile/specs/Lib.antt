@@ -1,1 +1,5 @@
 pub mod Writing
+pub mod Reading
+pub mod Taking
+pub mod Adding
+pub mod Fronts

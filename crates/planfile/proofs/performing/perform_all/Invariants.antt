@@ -1,5 +1,5 @@
 use Rattle.rig.specs.Rigs.{contents}
-use Rattle.planfile.proofs.Steps.{Midway}
+use Rattle.planfile.proofs.Turns.{Midway}
 use Rattle.planfile.proofs.performing.perform_all.Given as goal
 
 abbrev pub invariant-loop-number : goal.invariant-loop-number

@@ -45,9 +45,9 @@ module _ (c : Contents) (is : List ℕ) (k : ℕ) (xs : List Step) (d : Contents
     turn x same answered =
         record {
           done =
-            subst (λ js. Timed c js (xs ++ x ∷ []) (performed d (get_or is k 0))) (sym (take_more is k 0 lt))
+              subst (λ js. Timed c js (xs ++ x ∷ []) (performed d (get_or is k 0))) (sym (take_more is k 0 lt))
               (subst (λ j. Timed c (take k is ++ j ∷ []) (xs ++ x ∷ []) (performed d j)) same
-                (timed_push c (take k is) xs d x mid.done (subst (λ j. performs d j ≡ Ok x.time) (sym same) answered)));
+              (timed_push c (take k is) xs d x mid.done (subst (λ j. performs d j ≡ Ok x.time) (sym same) answered)));
           rest = accepts.rest;
         }
 
@@ -58,7 +58,7 @@ module _ (c : Contents) (is : List ℕ) (k : ℕ) (xs : List Step) (d : Contents
     turned n r t e x ys is_n answer ok left same timed pushed =
         let answered : performs d (get_or is k 0) ≡ Ok x.time = subst (λ j. performs d j ≡ Ok x.time) is_n (sym answer ∙ ap numbered ok ∙ ap Ok (sym timed)) in
         subst (λ d. Midway c is (k + 1) ys d) (ap (performed d) (sym is_n) ∙ sym left)
-          (subst (λ zs. Midway c is (k + 1) zs (performed d (get_or is k 0))) (sym pushed) (turn x same answered))
+        (subst (λ zs. Midway c is (k + 1) zs (performed d (get_or is k 0))) (sym pushed) (turn x same answered))
 
   pub ends : length is ≤ k → Timed c is xs d
   ends end = subst (λ js. Timed c js xs d) (take_all k is end) mid.done
