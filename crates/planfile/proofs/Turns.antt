@@ -1,10 +1,9 @@
 -- Moves performed one after another. Assumes nothing.
-use Rattle.std.proofs.Common.{◌≡◌, ℕ, ◌+◌, ◌<◌, ◌≤◌, true, List, [], ◌∷◌, ◌++◌, length, get_or, take, drop, Ok, Err, Result, sym, refl, ap, ◌∙◌, subst, arith}
+use Rattle.std.proofs.Common.{◌≡◌, ℕ, ◌+◌, ◌<◌, ◌≤◌, List, [], ◌∷◌, ◌++◌, length, get_or, take, drop, Ok, Err, Result, sym, refl, ap, ◌∙◌, subst}
 use Rattle.std.specs.Result.{IsOk}
 use Rattle.std.proofs.lemmas.List.{drop_more, take_more, take_all}
 use Rattle.model.specs.Contents.{Contents}
 use Rattle.model.specs.Calls.{performs, performed}
-use Rattle.theory.specs.Performing.{Performs}
 use Rattle.moves.specs.declared.fault.RigFault.{RigFault}
 use Rattle.moves.specs.Faults.{numbered}
 use Rattle.report.specs.declared.step.Step.{Step}

@@ -51,7 +51,10 @@ impl fmt::Display for Told {
                 let lines = Lines {
                     steps: steps.as_slice(),
                 };
-                write!(f, "way {moves} moves {time} tenths {rounds} rounds\n{lines}")
+                write!(
+                    f,
+                    "way {moves} moves {time} tenths {rounds} rounds\n{lines}"
+                )
             }
             Told::NoWay { rounds } => writeln!(f, "no way {rounds} rounds"),
         }
