@@ -1,8 +1,8 @@
-//! What is printed of a plan, line by line, and refusals in words.
+//! What is printed of a plan, line by line, and its refusals in words.
 #![tactic(auto)]
 
 pub mod step;
 #[cfg(test)]
 mod tests;
-pub mod verdict;
+pub mod told;
 pub mod words;

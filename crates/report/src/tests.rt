@@ -1,27 +1,32 @@
 use crate::step::*;
-use crate::verdict::*;
+use crate::told::*;
 use crate::words::*;
-use planner::answer::Plan;
 use shelf::fault::ShelfFault;
 use std::test::Fail;
 use steps::fault::PlanFault;
 use steps::hanging::Hanging;
 
 #[test]
-fn lines_of_verdicts(rt: HostRuntime) -> Result<(), Fail> {
-    let way = Verdict::from(Ok(Plan::Way {
-        moves: 3,
+fn text_of_plans(rt: HostRuntime) -> Result<(), Fail> {
+    let first = Step {
+        number: 0,
+        time: 15,
+    };
+    let second = Step {
+        number: 3,
+        time: 40,
+    };
+    let way = Told::Way {
+        steps: vec![in rt.alloc(); first, second]?,
         time: 55,
         rounds: 2,
-    }));
+    };
     assert_eq!(rt;
         way.to_string(rt.alloc())?.as_str(),
-        "way 3 moves 55 tenths 2 rounds"
+        "way 2 moves 55 tenths 2 rounds\n0 15\n3 40\n"
     );
-    let none = Verdict::from(Ok(Plan::NoWay { rounds: 0 }));
-    assert_eq!(rt; none.to_string(rt.alloc())?.as_str(), "no way 0 rounds");
-    let short = Verdict::from(Err(PlanFault::SheetShort { needed: 3 }));
-    assert_eq!(rt; short.to_string(rt.alloc())?.as_str(), "refused 19");
+    let none = Told::NoWay { rounds: 0 };
+    assert_eq!(rt; none.to_string(rt.alloc())?.as_str(), "no way 0 rounds\n");
     Ok(())
 }
 
@@ -56,7 +61,7 @@ fn words_of_a_refusal(rt: HostRuntime) -> Result<(), Fail> {
     let words = PlanWords { fault, slots: 512 };
     assert_eq!(rt;
         words.to_string(rt.alloc())?.as_str(),
-        "no room: the charts of the plan need more than the 512 node slots there are\nwhere: the sum of pegs 2 and 3 onto peg 2, in round 4, at move 17\nwhat would help: more node slots, fewer moves or surcharges, or wider masks"
+        "refused 18: no room: the charts of the plan need more than the 512 node slots there are\nwhere: the sum of pegs 2 and 3 onto peg 2, in round 4, at move 17\nwhat would help: more node slots, fewer devices, moves or surcharges, or wider masks"
     );
     Ok(())
 }

@@ -75,7 +75,7 @@ impl fmt::Display for PlanWords {
         match self.fault {
             PlanFault::ShapesDiffer => write!(
                 f,
-                "rig and shelf differ in shape: open the shelf with the rig's settings counts"
+                "refused 17: rig and shelf differ in shape\nwhat would help: a shelf of the rig's settings counts"
             ),
             PlanFault::NoRoom {
                 call,
@@ -87,18 +87,18 @@ impl fmt::Display for PlanWords {
                 let at = MoveWords { number };
                 writeln!(
                     f,
-                    "no room: the charts of the plan need more than the {slots} node slots there are"
+                    "refused 18: no room: the charts of the plan need more than the {slots} node slots there are"
                 )?;
                 writeln!(f, "where: {call}, in round {round}{at}")?;
                 write!(
                     f,
-                    "what would help: more node slots, fewer moves or surcharges, or wider masks"
+                    "what would help: more node slots, fewer devices, moves or surcharges, or wider masks"
                 )
             }
             PlanFault::SheetShort { needed } => {
                 write!(
                     f,
-                    "sheet short: the way has {needed} moves, and the sheet fewer bytes; plan with a longer sheet"
+                    "refused 19: sheet short: the way has {needed} moves, and the sheet fewer bytes\nwhat would help: a sheet of {needed} bytes"
                 )
             }
         }

@@ -17,7 +17,7 @@ take_front : (is rest : List ℕ) → take (length is) (is ++ rest) ≡ is
 take_front [] rest = refl
 take_front (i ∷ is) rest = ap (λ ys. i ∷ ys) (take_front is rest)
 
-front : (c : Contents) (n t : ℕ) (old new : List ℕ) (w : Filled c n t old new) → take n new ≡ w.moves
+pub front : (c : Contents) (n t : ℕ) (old new : List ℕ) (w : Filled c n t old new) → take n new ≡ w.moves
 front c n t old new w = ap (λ k. take k new) w.many ∙ ap (take (length w.moves)) w.sheet ∙ take_front w.moves (drop n old)
 
 sent_back : (e : PlanFault) → Some (number e) ≡ None → ⊥
