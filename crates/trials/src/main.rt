@@ -1,0 +1,84 @@
+//! Random rigs, each planned on a flat shelf and on diagram shelves, and compared with a search that shares no code with
+//! the planner. What is tried is told in docs/TRIALS.md.
+#![tactic(auto)]
+
+mod counter;
+mod devices;
+mod dijkstra;
+mod files;
+mod graph;
+mod invent;
+mod make;
+mod pairs;
+mod performs;
+mod plain;
+mod plans;
+mod runs;
+mod search;
+mod sequence;
+mod sweeps;
+mod tally;
+mod times;
+
+use anyhow::Context;
+use files::tried;
+use graph::{Graph, explored};
+use invent::invent;
+use make::made;
+use performs::performed;
+use planner::answer::Plan;
+use plans::{on_diagrams, on_flat};
+use search::{Expected, searched};
+use sequence::Sequence;
+use std::alloc::Global;
+use tally::{Tally, add_to, raise_to};
+
+/// How many rigs are tried.
+const TRIALS: u64 = 200;
+
+/// Counts a rig and what the search says of it.
+fn count(tally: &mut Tally, graph: &Graph, expected: &Expected) {
+    add_to(&mut tally.rigs, 1);
+    raise_to(&mut tally.most_scenes, graph.size() as u64);
+    raise_to(&mut tally.most_runs, expected.runs);
+    add_to(&mut tally.ties, u64::from(expected.runs > 1));
+    add_to(&mut tally.exhausted, u64::from(expected.is_exhausted));
+    let rounds = match expected.answer {
+        Plan::Way { moves, rounds, .. } => {
+            add_to(&mut tally.ways, 1);
+            add_to(&mut tally.moves, moves as u64);
+            raise_to(&mut tally.most_moves, moves as u64);
+            rounds
+        }
+        Plan::NoWay { rounds } => {
+            add_to(&mut tally.no_ways, 1);
+            rounds
+        }
+    };
+    raise_to(&mut tally.most_rounds, rounds);
+}
+
+/// The trial of a number: its sequence begins at that state.
+fn trial(alloc: Global, number: u64, tally: &mut Tally) -> anyhow::Result<()> {
+    let mut draws = Sequence::from_state(number);
+    let plain = invent(alloc, &mut draws)?;
+    let graph = explored(alloc, &plain)?;
+    let expected = searched(alloc, &graph)?;
+    let mut rig = made(alloc, &plain, &graph)?;
+    count(tally, &graph, &expected);
+    on_flat(alloc, &rig, graph.size(), &expected)?;
+    on_diagrams(alloc, &rig, &expected, tally)?;
+    tried(alloc, &rig, &plain)?;
+    add_to(&mut tally.files, 1);
+    performed(&mut rig, &graph, &expected)
+}
+
+/// Makes every trial, up to the first in which something disagrees, and prints what was seen.
+fn main(rt: HostRuntime) -> anyhow::Result<()> {
+    let mut tally = Tally::new();
+    for number in 0..TRIALS {
+        trial(rt.alloc(), number, &mut tally).context(format_args!("trial {number}"))?;
+    }
+    tally.print(&rt)?;
+    Ok(())
+}
