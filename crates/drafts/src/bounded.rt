@@ -17,7 +17,7 @@ const NO_PAIR: Pair = Pair {
     setting: 0,
 };
 
-impl Charge {
+impl Charge<'_> {
     /// The surcharge, or nothing where it has no test or too many.
     fn bounded(&self) -> Option<Surcharge>
         ensures { MatchOption result (tests_off (charge_of self.now) ≡ true) (λ x. (tests_off (charge_of self.now) ≡ false) × (surcharge_of x ≡ charge_of self.now)) }
@@ -26,7 +26,7 @@ impl Charge {
         if self.tests.is_empty() {
             return None;
         }
-        let tests = Short::of(self.tests.as_slice(), NO_PAIR)?;
+        let tests = Short::of(self.tests, NO_PAIR)?;
         Some(Surcharge::new(tests, self.extra))
     }
 }
@@ -43,7 +43,7 @@ pub(crate) fn bounded_all(charges: &[Charge]) -> Option<Short<Surcharge, MOST_SU
     Some(all)
 }
 
-impl Draft {
+impl Draft<'_> {
     /// The move, or nothing where a list is longer or shorter than a move's may be.
     pub(crate) fn bounded(&self) -> Option<Move>
         ensures { MatchOption result (lengths_off (draft_of self.now) ≡ true) (λ m. (lengths_off (draft_of self.now) ≡ false) × (move_of m ≡ draft_of self.now)) }
@@ -51,9 +51,9 @@ impl Draft {
         if self.effects.is_empty() {
             return None;
         }
-        let conditions = Short::of(self.conditions.as_slice(), NO_PAIR)?;
-        let effects = Short::of(self.effects.as_slice(), NO_PAIR)?;
-        let surcharges = bounded_all(self.surcharges.as_slice())?;
+        let conditions = Short::of(self.conditions, NO_PAIR)?;
+        let effects = Short::of(self.effects, NO_PAIR)?;
+        let surcharges = bounded_all(self.surcharges)?;
         Some(Move::new(conditions, effects, self.base, surcharges))
     }
 }

@@ -1,17 +1,17 @@
 use moves::pair::*;
 
 /// A surcharge as it is handed in: any number of tests.
-#[derive(Drop)]
-pub struct Charge {
-    pub tests: Vec<Pair>,
+#[derive(Clone, Copy)]
+pub struct Charge<'a> {
+    pub tests: &'a [Pair],
     pub extra: u16,
 }
 
-/// A move as it is handed in: lists of any length, judged as a whole.
-#[derive(Drop)]
-pub struct Draft {
-    pub conditions: Vec<Pair>,
-    pub effects: Vec<Pair>,
+/// A move as it is handed in: lists of any length, lent and judged as a whole.
+#[derive(Clone, Copy)]
+pub struct Draft<'a> {
+    pub conditions: &'a [Pair],
+    pub effects: &'a [Pair],
     pub base: u16,
-    pub surcharges: Vec<Charge>,
+    pub surcharges: &'a [Charge<'a>],
 }

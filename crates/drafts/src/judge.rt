@@ -42,7 +42,7 @@ fn some_has<F: Fn(&[Pair]) -> bool>(charges: &[Charge], has: F) -> bool
     requires tests { (pairs : _) (answer : Bool) → F.post has pairs answer → answer ≡ flawed (pairs_of pairs.now) }
     ensures { result ≡ some flawed (tested (charges_of charges.now)) }
 {
-    charges.iter().any(|charge| has(charge.tests.as_slice()))
+    charges.iter().any(|charge| has(charge.tests))
 }
 
 /// Whether the conditions, the effects or the tests of some surcharge have a flaw.
@@ -84,7 +84,7 @@ pub(crate) fn judge_pairs(
     Ok(())
 }
 
-impl Charge {
+impl Charge<'_> {
     /// Whether it adds nothing.
     fn is_free(&self) -> bool
         ensures { result ≡ free (charge_of self.now) }

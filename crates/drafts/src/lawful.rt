@@ -14,19 +14,14 @@ use lists::short::Short;
 use moves::entry::{Move, Surcharge};
 use moves::fault::RigFault;
 
-impl Draft {
+impl Draft<'_> {
     /// The move that a slot may hold.
     pub fn lawful(&self, settings: &[u8]) -> Result<Move, RigFault>
         ensures { Judged (move_checks settings.now (draft_of self.now)) (λ m. move_of m ≡ draft_of self.now) result }
     {
-        judge_pairs(
-            self.conditions.as_slice(),
-            self.effects.as_slice(),
-            self.surcharges.as_slice(),
-            settings,
-        )?;
+        judge_pairs(self.conditions, self.effects, self.surcharges, settings)?;
         let entry = self.bounded().ok_or(RigFault::LengthsOff)?;
-        if times_off(self.base, self.surcharges.as_slice()) {
+        if times_off(self.base, self.surcharges) {
             return Err(RigFault::TimesOff);
         }
         Ok(entry)

@@ -23,8 +23,8 @@ use Rattle.show.specs.Agreeing.{PlansAgree}
 module _ {S : Type 0} where
   -- what a call leaves of the contents: an accepted one alters them, a refused one or a plan leaves them as they are
   abbrev pub altered : Contents → Cue S → Contents
-  altered c (Add n draft _) = added c n (draft_of draft)
-  altered c (Retime n base charges _) = retimed c n base (charges_of (vec_items charges))
+  altered c (Add n draft _) = added c n (draft_of draft.now)
+  altered c (Retime n base charges _) = retimed c n base (charges_of charges.now)
   altered c (Withdraw n _) = withdrawn c n
   altered c (Perform n _) = performed c n
   altered c (Want masks _) = wanting c (vec_items masks)
@@ -51,8 +51,8 @@ module _ {S : Type 0} where
 
   -- cue x, called on contents c, is left as y
   abbrev pub Answered : (S → Meaning) → Contents → Cue S → Cue S → Type 0
-  Answered meaning c (Add n draft _) y = Replied (adds c n (draft_of draft)) (Add n draft) y
-  Answered meaning c (Retime n base charges _) y = Replied (retimes c n base (charges_of (vec_items charges))) (Retime n base charges) y
+  Answered meaning c (Add n draft _) y = Replied (adds c n (draft_of draft.now)) (Add n draft) y
+  Answered meaning c (Retime n base charges _) y = Replied (retimes c n base (charges_of charges.now)) (Retime n base charges) y
   Answered meaning c (Withdraw n _) y = Replied (withdraws c n) (Withdraw n) y
   Answered meaning c (Perform n _) y = Replied (performs c n) (Perform n) y
   Answered meaning c (Want masks _) y = Replied (wants c (vec_items masks)) (Want masks) y

@@ -6,18 +6,18 @@ use steps::fault::PlanFault;
 /// A call that is to be made, with what it takes and the place of its reply.
 // The reply stands in each variant, for its type is the call's: beside a call it could be of another one's type.
 #[derive(Drop)]
-pub enum Cue<S> {
+pub enum Cue<'a, S> {
     /// Puts a move into a vacant slot.
     Add {
         number: usize,
-        draft: Draft,
+        draft: &'a Draft<'a>,
         reply: Option<Result<(), RigFault>>,
     },
     /// Replaces the base and the surcharges of a move.
     Retime {
         number: usize,
         base: u16,
-        charges: Vec<Charge>,
+        charges: &'a [Charge<'a>],
         reply: Option<Result<(), RigFault>>,
     },
     /// Makes the slot of a move vacant.

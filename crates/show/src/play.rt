@@ -12,7 +12,7 @@ use rig::unopened::Unopened;
 use shelf::calls::Shelf;
 
 /// Makes one call, and writes its reply.
-pub fn call<S: Shelf>(rig: &mut Rig, cue: &mut Cue<S>)
+pub fn call<S: Shelf>(rig: &mut Rig, cue: &mut Cue<'_, S>)
     ensures answer { Answered S.meaning (contents rig.old) cue.old cue.new }
     ensures left { contents rig.new ≡ altered (contents rig.old) cue.old }
 {
@@ -28,7 +28,7 @@ pub fn call<S: Shelf>(rig: &mut Rig, cue: &mut Cue<S>)
             base,
             charges,
             reply,
-        } => *reply = Some(rig.retime(*number, *base, charges.as_slice())),
+        } => *reply = Some(rig.retime(*number, *base, charges)),
         Cue::Withdraw { number, reply } => *reply = Some(rig.withdraw(*number)),
         Cue::Perform { number, reply } => *reply = Some(rig.perform(*number)),
         Cue::Want { masks, reply } => *reply = Some(rig.want(masks.as_slice())),
@@ -41,7 +41,7 @@ pub fn call<S: Shelf>(rig: &mut Rig, cue: &mut Cue<S>)
 }
 
 /// Makes each call in turn, and writes its reply.
-pub fn play<S: Shelf>(rig: &mut Rig, cues: &mut [Cue<S>])
+pub fn play<S: Shelf>(rig: &mut Rig, cues: &mut [Cue<'_, S>])
     ensures played { Played S.meaning (contents rig.old) cues.old cues.new (contents rig.new) }
 {
     for cue in cues.iter_mut() {
@@ -57,7 +57,7 @@ pub fn show<S: Shelf>(
     names: &[Name],
     scene: &[u8],
     slots: Vec<Option<Move>>,
-    cues: &mut [Cue<S>],
+    cues: &mut [Cue<'_, S>],
 ) -> Result<Rig, Unopened>
     ensures shown { Shown S.meaning settings.now names.now scene.now slots cues.old result cues.new }
 {

@@ -34,38 +34,70 @@ const DUSK: u8 = 1;
 
 const DARK: u8 = 2;
 
-fn at(device: u8, setting: u8) -> Pair {
-    Pair { device, setting }
-}
+const LAMP_ON: Pair = Pair {
+    device: LAMP,
+    setting: ON,
+};
 
-/// A move of one device from one setting to another.
-fn plain(heap: Global, device: u8, from: u8, to: u8, base: u16) -> anyhow::Result<Draft> {
-    Ok(Draft {
-        conditions: vec![in heap; at(device, from)]?,
-        effects: vec![in heap; at(device, to)]?,
-        base,
-        surcharges: Vec::new(heap),
-    })
-}
+const LAMP_OFF: Pair = Pair {
+    device: LAMP,
+    setting: OFF,
+};
 
-/// A move of the sky, with an extra time while the lamp is on.
-fn of_sky(heap: Global, from: u8, to: u8, base: u16, extra: u16) -> anyhow::Result<Draft> {
-    let mut draft = plain(heap, SKY, from, to, base)?;
-    let tests = vec![in heap; at(LAMP, ON)]?;
-    draft.surcharges.push(Charge { tests, extra })?;
-    Ok(draft)
-}
+const SKY_DAY: Pair = Pair {
+    device: SKY,
+    setting: DAY,
+};
 
-fn add(number: usize, draft: Draft) -> Cue<DiagramShelf> {
-    Cue::Add {
-        number,
-        draft,
-        reply: None,
-    }
-}
+const SKY_DUSK: Pair = Pair {
+    device: SKY,
+    setting: DUSK,
+};
+
+const SKY_DARK: Pair = Pair {
+    device: SKY,
+    setting: DARK,
+};
+
+/// The lamp goes off; it becomes dusk, then dark, or dark at once, and each takes longer while the lamp is on.
+const MOVES: [Draft<'static>; 4] = [
+    Draft {
+        conditions: &[LAMP_ON],
+        effects: &[LAMP_OFF],
+        base: 15,
+        surcharges: &[],
+    },
+    Draft {
+        conditions: &[SKY_DAY],
+        effects: &[SKY_DUSK],
+        base: 20,
+        surcharges: &[Charge {
+            tests: &[LAMP_ON],
+            extra: 30,
+        }],
+    },
+    Draft {
+        conditions: &[SKY_DUSK],
+        effects: &[SKY_DARK],
+        base: 20,
+        surcharges: &[Charge {
+            tests: &[LAMP_ON],
+            extra: 40,
+        }],
+    },
+    Draft {
+        conditions: &[SKY_DAY],
+        effects: &[SKY_DARK],
+        base: 40,
+        surcharges: &[Charge {
+            tests: &[LAMP_ON],
+            extra: 50,
+        }],
+    },
+];
 
 /// A plan on a diagram shelf, with room for sixteen moves.
-fn plan(heap: Global) -> anyhow::Result<Cue<DiagramShelf>> {
+fn plan(heap: Global) -> anyhow::Result<Cue<'static, DiagramShelf>> {
     let sheet = vec![in heap; 0u8; 16]?;
     let shelf = DiagramShelf::open(heap, &SETTINGS, NODE_SLOTS).map_err(|fault| {
         anyhow!("the shelf of the evening does not open: {fault}")
@@ -78,12 +110,15 @@ fn plan(heap: Global) -> anyhow::Result<Cue<DiagramShelf>> {
 }
 
 /// The calls of the evening: four moves, any scene with a dark sky is wanted, and a plan.
-pub(crate) fn cues(heap: Global) -> anyhow::Result<Vec<Cue<DiagramShelf>>> {
+pub(crate) fn cues(heap: Global) -> anyhow::Result<Vec<Cue<'static, DiagramShelf>>> {
     let mut cues = Vec::new(heap);
-    cues.push(add(0, plain(heap, LAMP, ON, OFF, 15)?))?;
-    cues.push(add(1, of_sky(heap, DAY, DUSK, 20, 30)?))?;
-    cues.push(add(2, of_sky(heap, DUSK, DARK, 20, 40)?))?;
-    cues.push(add(3, of_sky(heap, DAY, DARK, 40, 50)?))?;
+    for (number, draft) in MOVES.iter().enumerate() {
+        cues.push(Cue::Add {
+            number,
+            draft,
+            reply: None,
+        })?;
+    }
     cues.push(Cue::Want {
         masks: vec![in heap; 0b011, 0b100]?,
         reply: None,

@@ -46,7 +46,7 @@ fn report(
 
 fn run(rt: &HostRuntime) -> anyhow::Result<()> {
     let slots = vec![in rt.alloc(); None; evening::SLOTS]?;
-    let mut cues: Vec<Cue<DiagramShelf>> = evening::cues(rt.alloc())?;
+    let mut cues: Vec<Cue<'_, DiagramShelf>> = evening::cues(rt.alloc())?;
     let mut rig = show(
         &evening::SETTINGS,
         &evening::NAMES,
