@@ -1,6 +1,6 @@
-//! Random rigs: loose ones, whose moves have nothing to do with one another, and counters, whose runs are long.
-use crate::counter::counter;
+//! Random rigs: loose ones, whose moves have nothing to do with one another, and ladders.
 use crate::devices::{some_mask, some_name};
+use crate::ladder::{Ladder, climbing};
 use crate::pairs::{add_pair, some_pairs};
 use crate::plain::{PlainMove, PlainRig};
 use crate::sequence::Sequence;
@@ -100,11 +100,11 @@ fn loose(alloc: Global, draws: &mut Sequence) -> Result<PlainRig, AllocError> {
     })
 }
 
-/// A random rig: one in sixteen is a counter.
+/// A random rig: of sixteen one counts, and three are free ladders.
 pub fn invent(alloc: Global, draws: &mut Sequence) -> Result<PlainRig, AllocError> {
-    if draws.once_in(16) {
-        counter(alloc, draws)
-    } else {
-        loose(alloc, draws)
+    match draws.below(16) {
+        0 => climbing(alloc, draws, Ladder::Counting),
+        1..=3 => climbing(alloc, draws, Ladder::Free),
+        _ => loose(alloc, draws),
     }
 }

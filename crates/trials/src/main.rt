@@ -2,12 +2,13 @@
 //! the planner. What is tried is told in docs/TRIALS.md.
 #![tactic(auto)]
 
-mod counter;
 mod devices;
 mod dijkstra;
 mod files;
 mod graph;
+mod guest;
 mod invent;
+mod ladder;
 mod make;
 mod pairs;
 mod performs;
@@ -23,11 +24,12 @@ mod times;
 use anyhow::Context;
 use files::tried;
 use graph::{Graph, explored};
+use guest::Guest;
 use invent::invent;
 use make::made;
 use performs::performed;
 use planner::answer::Plan;
-use plans::{on_diagrams, on_flat};
+use plans::Case;
 use search::{Expected, searched};
 use sequence::Sequence;
 use std::alloc::Global;
@@ -66,8 +68,14 @@ fn trial(alloc: Global, number: u64, tally: &mut Tally) -> anyhow::Result<()> {
     let expected = searched(alloc, &graph)?;
     let mut rig = made(alloc, &plain, &graph)?;
     count(tally, &graph, &expected);
-    on_flat(alloc, &rig, graph.size(), &expected)?;
-    on_diagrams(alloc, &rig, &expected, tally)?;
+    let case = Case {
+        alloc,
+        rig: &rig,
+        expected: &expected,
+        guest: Guest::invented(&mut draws, plain.settings.len()),
+    };
+    case.on_flat(graph.size())?;
+    case.on_diagrams(tally)?;
     tried(alloc, &rig, &plain)?;
     add_to(&mut tally.files, 1);
     performed(&mut rig, &graph, &expected)

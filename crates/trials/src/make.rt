@@ -1,35 +1,33 @@
 //! The rig of a plain rig.
 use crate::graph::Graph;
-use crate::plain::{PlainMove, PlainRig};
+use crate::plain::{PlainMove, PlainRig, PlainSurcharge};
 use anyhow::ensure;
 use drafts::draft::{Charge, Draft};
 use rig::frame::Rig;
 use std::alloc::{AllocError, Global};
 
-/// The move as it is handed in.
-fn draft(alloc: Global, entry: &PlainMove) -> Result<Draft, AllocError> {
-    let mut surcharges = Vec::new(alloc);
-    for surcharge in &entry.surcharges {
-        let tests = surcharge.tests.clone()?;
-        surcharges.push(Charge {
-            tests,
+/// The surcharges as they are handed in.
+fn charges(alloc: Global, surcharges: &[PlainSurcharge]) -> Result<Vec<Charge<'_>>, AllocError> {
+    let mut charges = Vec::new(alloc);
+    for surcharge in surcharges {
+        charges.push(Charge {
+            tests: surcharge.tests.as_slice(),
             extra: surcharge.extra,
         })?;
     }
-    Ok(Draft {
-        conditions: entry.conditions.clone()?,
-        effects: entry.effects.clone()?,
-        base: entry.base,
-        surcharges,
-    })
+    Ok(charges)
 }
 
-/// Adds each move.
-fn add_all(alloc: Global, rig: &mut Rig, moves: &[PlainMove]) -> anyhow::Result<()> {
-    for entry in moves {
-        let draft = draft(alloc, entry)?;
-        rig.add(usize::from(entry.number), &draft)?;
-    }
+/// Adds a move in the slot of its number.
+fn add_move(alloc: Global, rig: &mut Rig, entry: &PlainMove) -> anyhow::Result<()> {
+    let surcharges = charges(alloc, entry.surcharges.as_slice())?;
+    let draft = Draft {
+        conditions: entry.conditions.as_slice(),
+        effects: entry.effects.as_slice(),
+        base: entry.base,
+        surcharges: surcharges.as_slice(),
+    };
+    rig.add(usize::from(entry.number), &draft)?;
     Ok(())
 }
 
@@ -52,7 +50,9 @@ pub fn made(alloc: Global, plain: &PlainRig, graph: &Graph) -> anyhow::Result<Ri
         slots,
     )
     .map_err(|refused| refused.fault)?;
-    add_all(alloc, &mut rig, plain.moves.as_slice())?;
+    for entry in &plain.moves {
+        add_move(alloc, &mut rig, entry)?;
+    }
     let wanted = rig.want(plain.masks.as_slice())?;
     let counted = wanted_count(graph);
     ensure!(

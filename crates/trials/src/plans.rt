@@ -1,4 +1,5 @@
 //! Plans on shelves, compared with what the search says.
+use crate::guest::Guest;
 use crate::search::Expected;
 use crate::tally::{CAPACITIES, Tally, add_to};
 use anyhow::{Context, anyhow, bail, ensure};
@@ -14,55 +15,19 @@ use steps::fault::PlanFault;
 /// Stands in a sheet where nothing is written: no slot has this number.
 const UNWRITTEN: u8 = 255;
 
-/// How many bytes a sheet has past the moves.
+/// How many bytes a long sheet has past the moves.
 const SPARE: usize = 3;
 
 /// How many cells a flat shelf has for each scene.
 const PEGS: usize = 8;
 
-/// How a plan that did not fail ended.
+/// How a plan ended that does not contradict the search.
 #[derive(Clone, Copy, PartialEq, Eq)]
-pub enum Ending {
+enum Ending {
     /// As the search says.
     Agreed,
     /// With "no room".
     NoRoom,
-}
-
-/// A sheet of so many bytes with nothing on it.
-fn blank(alloc: Global, length: usize) -> Result<Vec<u8>, AllocError> {
-    vec![in alloc; UNWRITTEN; length]
-}
-
-/// Plans with a sheet of three bytes more than the moves of the run need.
-fn with_long_sheet<S: Shelf>(
-    alloc: Global,
-    rig: &Rig,
-    shelf: &mut S,
-    expected: &Expected,
-) -> anyhow::Result<Ending> {
-    let mut sheet = blank(alloc, expected.moves.len().saturating_add(SPARE))?;
-    match plan(rig, shelf, sheet.as_mut_slice()) {
-        Ok(answer) => {
-            let searched = expected.answer;
-            ensure!(
-                answer == searched,
-                "{answer:?}, but the search says {searched:?}"
-            );
-            is_written(sheet.as_slice(), expected.moves.as_slice())?;
-            Ok(Ending::Agreed)
-        }
-        Err(
-            PlanFault::NoRoom {
-                fault: ShelfFault::NoRoom,
-                ..
-            },
-        ) => {
-            is_written(sheet.as_slice(), &[])?;
-            Ok(Ending::NoRoom)
-        }
-        Err(fault) => bail!("sent back with {}", fault.number()),
-    }
 }
 
 /// The sheet has the moves at its front, and nothing past them.
@@ -81,71 +46,97 @@ fn is_written(sheet: &[u8], moves: &[u8]) -> anyhow::Result<()> {
     Ok(())
 }
 
-/// Plans with a sheet of one byte less than the moves of the run need.
-fn with_short_sheet<S: Shelf>(
-    alloc: Global,
-    rig: &Rig,
-    shelf: &mut S,
-    expected: &Expected,
-) -> anyhow::Result<()> {
-    let needed = expected.moves.len();
-    let mut sheet = blank(alloc, needed.saturating_sub(1))?;
-    let answer = plan(rig, shelf, sheet.as_mut_slice());
-    let is_short = answer == Err(PlanFault::SheetShort { needed });
-    ensure!(
-        is_short || needed == 0,
-        "a sheet too short for {needed} moves: {answer:?}"
-    );
-    is_written(sheet.as_slice(), &[])
+/// A rig to be planned, what the search says of it, and a chart that hangs on the shelf already.
+#[derive(Clone, Copy)]
+pub struct Case<'a> {
+    pub alloc: Global,
+    pub rig: &'a Rig,
+    pub expected: &'a Expected,
+    pub guest: Guest,
 }
 
-/// Plans on a flat shelf, which has room for every chart.
-pub fn on_flat(alloc: Global, rig: &Rig, scenes: usize, expected: &Expected) -> anyhow::Result<()> {
-    let cells = vec![in alloc; None; scenes.saturating_mul(PEGS)]?;
-    let mut shelf = FlatShelf::open(rig.settings(), cells).map_err(|refused| {
-        anyhow!("the flat shelf does not open: {}", refused.fault.number())
-    })?;
-    let ending = with_long_sheet(alloc, rig, &mut shelf, expected)?;
-    ensure!(ending == Ending::Agreed, "no room on a flat shelf");
-    with_short_sheet(alloc, rig, &mut shelf, expected)
-}
+impl Case<'_> {
+    /// A sheet of so many bytes with nothing on it.
+    fn blank(&self, length: usize) -> Result<Vec<u8>, AllocError> {
+        vec![in self.alloc; UNWRITTEN; length]
+    }
 
-/// Plans on a diagram shelf with so many node slots.
-fn on_diagram(
-    alloc: Global,
-    rig: &Rig,
-    slots: usize,
-    expected: &Expected,
-) -> anyhow::Result<Ending> {
-    let mut shelf = DiagramShelf::open(alloc, rig.settings(), slots)?;
-    let ending = with_long_sheet(alloc, rig, &mut shelf, expected)?;
-    // Planned once more, on the shelf as the first plan left it.
-    let again = with_long_sheet(alloc, rig, &mut shelf, expected)?;
-    ensure!(
-        again == ending,
-        "a second plan on the same shelf ends otherwise"
-    );
-    Ok(ending)
-}
-
-/// Plans on a diagram shelf of each capacity. Where there is room, there is room in more slots.
-pub fn on_diagrams(
-    alloc: Global,
-    rig: &Rig,
-    expected: &Expected,
-    tally: &mut Tally,
-) -> anyhow::Result<()> {
-    let mut had_room = false;
-    for (slots, no_rooms) in CAPACITIES.iter().zip(tally.no_rooms.iter_mut()) {
-        let ending = on_diagram(alloc, rig, *slots, expected).context(format_args!(
-            "a diagram shelf of {slots} slots"
-        ))?;
-        if ending == Ending::NoRoom {
-            ensure!(!had_room, "no room in {slots} slots, but in fewer");
-            add_to(no_rooms, 1);
-        } else {
-            had_room = true;
+    /// Plans with a sheet of more bytes than the run has moves.
+    fn with_long_sheet<S: Shelf>(&self, shelf: &mut S) -> anyhow::Result<Ending> {
+        let moves = self.expected.moves.as_slice();
+        let mut sheet = self.blank(moves.len().saturating_add(SPARE))?;
+        match plan(self.rig, shelf, sheet.as_mut_slice()) {
+            Ok(answer) => {
+                let searched = self.expected.answer;
+                ensure!(
+                    answer == searched,
+                    "{answer:?}, but the search says {searched:?}"
+                );
+                is_written(sheet.as_slice(), moves)?;
+                Ok(Ending::Agreed)
+            }
+            Err(
+                PlanFault::NoRoom {
+                    fault: ShelfFault::NoRoom,
+                    ..
+                },
+            ) => {
+                is_written(sheet.as_slice(), &[])?;
+                Ok(Ending::NoRoom)
+            }
+            Err(fault) => bail!("sent back with {}", fault.number()),
         }
     }
-    Ok(())
+
+    /// Plans with a sheet of one byte less than the run has moves. Where there is no room, that is the answer still.
+    fn with_short_sheet<S: Shelf>(&self, shelf: &mut S, ending: Ending) -> anyhow::Result<()> {
+        let needed = self.expected.moves.len();
+        let mut sheet = self.blank(needed.saturating_sub(1))?;
+        let answer = plan(self.rig, shelf, sheet.as_mut_slice());
+        let is_right = match ending {
+            Ending::Agreed => needed == 0 || answer == Err(PlanFault::SheetShort { needed }),
+            Ending::NoRoom => matches!(&answer, Err(PlanFault::NoRoom { .. })),
+        };
+        ensure!(is_right, "a sheet too short for {needed} moves: {answer:?}");
+        is_written(sheet.as_slice(), &[])
+    }
+
+    /// Plans twice on a shelf where the guest hangs, if it has room.
+    fn on<S: Shelf>(&self, shelf: &mut S) -> anyhow::Result<Ending> {
+        let is_hung = self.guest.hang(shelf)?;
+        let ending = self.with_long_sheet(shelf)?;
+        self.with_short_sheet(shelf, ending)?;
+        if is_hung {
+            self.guest.is_kept(shelf)?;
+        }
+        Ok(ending)
+    }
+
+    /// Plans on a flat shelf, which has room for every chart.
+    pub fn on_flat(&self, scenes: usize) -> anyhow::Result<()> {
+        let cells = vec![in self.alloc; None; scenes.saturating_mul(PEGS)]?;
+        let mut shelf = FlatShelf::open(self.rig.settings(), cells).map_err(|refused| {
+            anyhow!("the flat shelf does not open: {}", refused.fault.number())
+        })?;
+        let ending = self.on(&mut shelf)?;
+        ensure!(ending == Ending::Agreed, "no room on a flat shelf");
+        Ok(())
+    }
+
+    /// Plans on a diagram shelf with so many node slots.
+    fn on_diagram(&self, slots: usize) -> anyhow::Result<Ending> {
+        let mut shelf = DiagramShelf::open(self.alloc, self.rig.settings(), slots)?;
+        self.on(&mut shelf)
+    }
+
+    /// Plans on a diagram shelf of each capacity.
+    pub fn on_diagrams(&self, tally: &mut Tally) -> anyhow::Result<()> {
+        for (slots, no_rooms) in CAPACITIES.iter().zip(tally.no_rooms.iter_mut()) {
+            let ending = self
+                .on_diagram(*slots)
+                .context(format_args!("a diagram shelf of {slots} slots"))?;
+            add_to(no_rooms, u64::from(ending == Ending::NoRoom));
+        }
+        Ok(())
+    }
 }

@@ -4,10 +4,10 @@ ghost use Rattle.std.specs.Prelude.{◌≡◌, ◌+◌, ◌-◌, ◌^◌, min};
 use std::io;
 
 /// How many kinds of diagram shelf are tried.
-const SIZES: usize = 5;
+const SIZES: usize = 7;
 
 /// How many node slots each of them has.
-pub const CAPACITIES: [usize; SIZES] = [4, 16, 64, 512, 4096];
+pub const CAPACITIES: [usize; SIZES] = [4, 8, 16, 32, 64, 512, 4096];
 
 /// Refusals are numbered below this.
 const NUMBERS: usize = 21;
