@@ -90,8 +90,8 @@ fn file_of(alloc: Global, plain: &PlainRig) -> Result<Vec<u8>, AllocError> {
     Ok(file)
 }
 
-/// Writes the rig's file.
-fn written(alloc: Global, rig: &Rig) -> anyhow::Result<Vec<u8>> {
+/// The file of a rig, as it is written.
+pub fn written(alloc: Global, rig: &Rig) -> anyhow::Result<Vec<u8>> {
     let mut buffer = vec![in alloc; UNWRITTEN; BUFFER]?;
     let length = write(rig, buffer.as_mut_slice())?;
     ensure!(

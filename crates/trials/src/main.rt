@@ -2,6 +2,7 @@
 //! the planner. What is tried is told in docs/TRIALS.md.
 #![tactic(auto)]
 
+mod damage;
 mod devices;
 mod dijkstra;
 mod files;
@@ -14,6 +15,7 @@ mod pairs;
 mod performs;
 mod plain;
 mod plans;
+mod reads;
 mod runs;
 mod search;
 mod sequence;
@@ -21,7 +23,7 @@ mod sweeps;
 mod tally;
 mod times;
 
-use anyhow::Context;
+use anyhow::{Context, ensure};
 use files::tried;
 use graph::{Graph, explored};
 use guest::Guest;
@@ -30,13 +32,14 @@ use make::made;
 use performs::performed;
 use planner::answer::Plan;
 use plans::Case;
+use reads::read_tried;
 use search::{Expected, searched};
 use sequence::Sequence;
 use std::alloc::Global;
 use tally::{Tally, add_to, raise_to};
 
 /// How many rigs are tried.
-const TRIALS: u64 = 200;
+const TRIALS: u64 = 1000;
 
 /// Counts a rig and what the search says of it.
 fn count(tally: &mut Tally, graph: &Graph, expected: &Expected) {
@@ -77,12 +80,23 @@ fn trial(alloc: Global, number: u64, tally: &mut Tally) -> anyhow::Result<()> {
     case.on_flat(graph.size())?;
     case.on_diagrams(tally)?;
     tried(alloc, &rig, &plain)?;
-    add_to(&mut tally.files, 1);
+    add_to(&mut tally.written, 1);
+    read_tried(alloc, &mut draws, &rig, &plain, tally)?;
     performed(&mut rig, &graph, &expected)
+}
+
+/// The sequence begins as its authors' own does.
+fn is_known() -> bool {
+    let mut draws = Sequence::from_state(1_234_567);
+    draws.draw() == 6_457_827_717_110_365_317 && draws.draw() == 3_203_168_211_198_807_973
 }
 
 /// Makes every trial, up to the first in which something disagrees, and prints what was seen.
 fn main(rt: HostRuntime) -> anyhow::Result<()> {
+    ensure!(
+        is_known(),
+        "the sequence is not the one that is written down"
+    );
     let mut tally = Tally::new();
     for number in 0..TRIALS {
         trial(rt.alloc(), number, &mut tally).context(format_args!("trial {number}"))?;

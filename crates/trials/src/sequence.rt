@@ -43,6 +43,11 @@ impl Sequence {
         self.below(u64::from(bound)) as u8
     }
 
+    /// Any byte.
+    pub fn byte(&mut self) -> u8 {
+        u8::try_from(self.below(256)).unwrap_or(0)
+    }
+
     /// A place in a list of so many items, or 0.
     pub fn place_below(&mut self, bound: usize) -> usize
         ensures { 0 < bound → result < bound }

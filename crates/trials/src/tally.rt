@@ -9,8 +9,11 @@ const SIZES: usize = 7;
 /// How many node slots each of them has.
 pub const CAPACITIES: [usize; SIZES] = [4, 8, 16, 32, 64, 512, 4096];
 
-/// Refusals are numbered below this.
-const NUMBERS: usize = 21;
+/// By how many numbers a file can be refused.
+const NUMBERS: usize = 11;
+
+/// The numbers by which open, want, add and the frame of a file refuse it.
+const REFUSALS: [u8; NUMBERS] = [1, 2, 3, 4, 7, 8, 9, 10, 11, 13, 20];
 
 /// Counts of what was seen.
 #[derive(Drop)]
@@ -29,9 +32,11 @@ pub struct Tally {
     pub most_rounds: u64,
     /// Plans with "no room", for each capacity.
     pub no_rooms: [u64; SIZES],
-    pub files: u64,
+    pub written: u64,
+    pub read_back: u64,
+    /// Damaged files that were read.
     pub accepted: u64,
-    /// Damaged files refused, by the number of the refusal.
+    /// Damaged files that were refused, by the number of the refusal.
     pub refused: [u64; NUMBERS],
 }
 
@@ -62,9 +67,22 @@ impl Tally {
             most_runs: 0,
             most_rounds: 0,
             no_rooms: [0; SIZES],
-            files: 0,
+            written: 0,
+            read_back: 0,
             accepted: 0,
             refused: [0; NUMBERS],
+        }
+    }
+
+    /// Counts a refusal of a damaged file, and answers whether a file can be refused by that number.
+    pub fn count_refusal(&mut self, number: u8) -> bool {
+        let mut counts = REFUSALS.iter().zip(self.refused.iter_mut());
+        match counts.find(|(refusal, _)| **refusal == number) {
+            Some((_, count)) => {
+                add_to(count, 1);
+                true
+            }
+            None => false,
         }
     }
 
@@ -97,7 +115,13 @@ impl Tally {
     }
 
     fn print_files(&self, rt: &impl Print) -> io::Result<()> {
-        println!(rt; "files written: {}", self.files)
+        println!(rt; "files written: {}", self.written)?;
+        println!(rt; "files read back: {}", self.read_back)?;
+        println!(rt; "damaged files read: {}", self.accepted)?;
+        for (number, count) in REFUSALS.iter().zip(&self.refused) {
+            println!(rt; "damaged files refused by {number}: {count}")?;
+        }
+        Ok(())
     }
 
     /// Prints each count on a line.
