@@ -26,7 +26,7 @@ pub record Begun (h : Header) (l : Listing) (r : List ℕ) : Type 0 where
   pub total : h.total ≡ 12 + length (body l)
   pub rest : r ≡ body l
 
-begun : (h : Header) (l : Listing) (r : List ℕ) → opening h ++ r ≡ bytes l → Begun h l r
+pub begun : (h : Header) (l : Listing) (r : List ℕ) → opening h ++ r ≡ bytes l → Begun h l r
 begun h l r e =
     let n = length l.settings in
     let b₄ = body l in

@@ -20,7 +20,14 @@ pub struct Reader<'a> {
     pub rest: &'a [u8],
 }
 
-impl Reader<'_> {
+impl<'a> Reader<'a> {
+    /// Takes a part of so many bytes, as it stands.
+    pub fn part(&mut self, count: usize) -> Option<&'a [u8]>
+        ensures { MatchOption result (length self.old.rest.now < count) (λ xs. (length xs.now ≡ count) × (self.old.rest.now ≡ xs.now ++ self.new.rest.now)) }
+    {
+        self.rest.split_off(..count)
+    }
+
     /// Passes over so many bytes.
     pub fn skip(&mut self, count: usize) -> Option<()>
         ensures { Skips count result self.old.rest.now self.new.rest.now }
@@ -29,7 +36,7 @@ impl Reader<'_> {
     }
 
     /// Takes so many bytes.
-    fn take<const N: usize>(&mut self) -> Option<[u8; N]>
+    pub fn take<const N: usize>(&mut self) -> Option<[u8; N]>
         ensures { MatchOption result (length self.old.rest.now < N) (λ xs. self.old.rest.now ≡ xs ++ self.new.rest.now) }
     {
         let (first, rest) = self.rest.split_first_chunk()?;
@@ -44,7 +51,8 @@ impl Reader<'_> {
         self.take().map(u16::from_le_bytes)
     }
 
-    fn toll(&mut self) -> Option<Toll>
+    /// Takes what stands before the tests of a surcharge.
+    pub fn toll(&mut self) -> Option<Toll>
         ensures { Takes toll_bytes result self.old.rest.now self.new.rest.now }
     {
         let [count] = self.take::<1>()?;
@@ -52,7 +60,8 @@ impl Reader<'_> {
         Some(Toll { count, extra })
     }
 
-    fn head(&mut self) -> Option<Head>
+    /// Takes what stands before the lists of a move.
+    pub fn head(&mut self) -> Option<Head>
         ensures { Takes head_bytes result self.old.rest.now self.new.rest.now }
     {
         let [number, conditions, effects, surcharges] = self.take::<4>()?;
@@ -66,6 +75,7 @@ impl Reader<'_> {
         })
     }
 
+    /// Takes what stands before everything else.
     pub fn header(&mut self) -> Option<Header>
         ensures { Takes opening result self.old.rest.now self.new.rest.now }
     {

@@ -1,9 +1,16 @@
-//! Rig files: written into a buffer.
+//! Rig files: written into a buffer, and read.
 #![tactic(auto)]
 
+mod adder;
 mod devices;
 mod entries;
 pub mod fault;
+mod front;
+mod pairs;
+pub mod promises;
+pub mod read;
 mod sizes;
+mod taker;
+pub mod unread;
 pub mod write;
 mod writer;
