@@ -1,4 +1,6 @@
 //! Damage to the bytes of a file.
+ghost use Rattle.std.specs.Prelude.{◌≡◌, ◌≤◌, vec_len};
+
 use crate::sequence::Sequence;
 use std::alloc::{AllocError, Global};
 
@@ -6,7 +8,9 @@ use std::alloc::{AllocError, Global};
 const MOST_BYTES: u64 = 6;
 
 /// Gives some bytes other values, any at all.
-fn overwrite(draws: &mut Sequence, file: &mut Vec<u8>) {
+fn overwrite(draws: &mut Sequence, file: &mut Vec<u8>)
+    ensures { vec_len file.new ≡ vec_len file.old }
+{
     for _ in 0..draws.below(MOST_BYTES).saturating_add(1) {
         let place = draws.place_below(file.len());
         let value = draws.byte();
@@ -17,7 +21,9 @@ fn overwrite(draws: &mut Sequence, file: &mut Vec<u8>) {
 }
 
 /// Makes a byte a little larger or smaller, so that a file often stays one.
-fn nudge(draws: &mut Sequence, file: &mut Vec<u8>) {
+fn nudge(draws: &mut Sequence, file: &mut Vec<u8>)
+    ensures { vec_len file.new ≡ vec_len file.old }
+{
     let place = draws.place_below(file.len());
     let more = draws.byte_below(7).wrapping_sub(3);
     if let Some(byte) = file.get_mut(place) {
@@ -26,7 +32,9 @@ fn nudge(draws: &mut Sequence, file: &mut Vec<u8>) {
 }
 
 /// Cuts bytes off the end.
-fn cut(draws: &mut Sequence, file: &mut Vec<u8>) {
+fn cut(draws: &mut Sequence, file: &mut Vec<u8>)
+    ensures { vec_len file.new ≤ vec_len file.old }
+{
     let length = draws.place_below(file.len());
     file.truncate(length);
 }

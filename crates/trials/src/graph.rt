@@ -1,5 +1,8 @@
 //! The scenes of a plain rig one by one, and the steps between them, judged from the plain data alone.
+ghost use Rattle.std.specs.Prelude.{◌≡◌, vec_len};
+
 use crate::plain::{PlainMove, PlainRig, PlainSurcharge};
+use crate::scenes::{scene_count, setting_at, share};
 use moves::pair::Pair;
 use std::alloc::{AllocError, Global};
 
@@ -27,7 +30,9 @@ pub struct Graph {
 
 impl Graph {
     /// How many scenes there are.
-    pub fn size(&self) -> usize {
+    pub fn size(&self) -> usize
+        ensures { result ≡ vec_len self.now.steps }
+    {
         self.steps.len()
     }
 
@@ -45,15 +50,11 @@ impl Graph {
     }
 }
 
-/// The scene at a place: its settings are the digits of the place, the first device's the lowest.
+/// The scene at a place.
 fn scene_at(settings: &[u8], place: usize) -> Scene {
     let mut scene = [0; MOST_DEVICES];
-    let mut rest = place;
-    for (setting, count) in scene.iter_mut().zip(settings) {
-        let count = usize::from(*count);
-        let digit = rest.checked_rem(count).unwrap_or(0);
-        *setting = u8::try_from(digit).unwrap_or(0);
-        rest = rest.checked_div(count).unwrap_or(0);
+    for (device, setting) in scene.iter_mut().enumerate().take(settings.len()) {
+        *setting = u8::try_from(setting_at(settings, place, device)).unwrap_or(0);
     }
     scene
 }
@@ -61,10 +62,8 @@ fn scene_at(settings: &[u8], place: usize) -> Scene {
 /// The place of a scene.
 fn place_of(settings: &[u8], scene: &[u8]) -> usize {
     let mut place = 0usize;
-    let mut weight = 1usize;
-    for (setting, count) in scene.iter().zip(settings) {
-        place = place.saturating_add(weight.saturating_mul(usize::from(*setting)));
-        weight = weight.saturating_mul(usize::from(*count));
+    for (device, setting) in scene.iter().enumerate().take(settings.len()) {
+        place = place.saturating_add(share(settings, device, usize::from(*setting)));
     }
     place
 }
@@ -127,15 +126,6 @@ fn steps_in(alloc: Global, rig: &PlainRig, scene: &Scene) -> Result<Vec<Step>, A
 /// Whether each device's mask has the bit of its setting: a setting is admitted if halving the mask so often leaves it odd.
 fn is_wanted(masks: &[u8], scene: &Scene) -> bool {
     masks.iter().zip(scene).all(|(mask, setting)| mask.wrapping_shr(u32::from(*setting)) % 2 == 1)
-}
-
-/// How many scenes the devices have.
-fn scene_count(settings: &[u8]) -> usize {
-    let mut count = 1usize;
-    for settings in settings {
-        count = count.saturating_mul(usize::from(*settings));
-    }
-    count
 }
 
 /// Goes through all scenes of a rig.

@@ -1,4 +1,6 @@
 //! Rigs each of whose moves sets one device on by one, from all settings 0 to all last settings.
+ghost use Rattle.std.specs.Prelude.{◌≡◌, ◌-◌};
+
 use crate::devices::some_name;
 use crate::plain::{PlainMove, PlainRig};
 use crate::sequence::Sequence;
@@ -23,7 +25,9 @@ fn at(device: usize, setting: u8) -> Pair {
 }
 
 /// The last setting of a device of so many.
-fn last(settings: u8) -> u8 {
+fn last(settings: u8) -> u8
+    ensures { result ≡ settings - 1 }
+{
     settings.saturating_sub(1)
 }
 

@@ -2,6 +2,7 @@
 //! the planner. What is tried is told in docs/TRIALS.md.
 #![tactic(auto)]
 
+mod board;
 mod damage;
 mod devices;
 mod dijkstra;
@@ -12,11 +13,15 @@ mod invent;
 mod ladder;
 mod make;
 mod pairs;
+mod parts;
 mod performs;
 mod plain;
 mod plans;
 mod reads;
+mod rooms;
+mod rule;
 mod runs;
+mod scenes;
 mod search;
 mod sequence;
 mod sweeps;
@@ -33,6 +38,7 @@ use performs::performed;
 use planner::answer::Plan;
 use plans::Case;
 use reads::read_tried;
+use rooms::rooms_tried;
 use search::{Expected, searched};
 use sequence::Sequence;
 use std::alloc::Global;
@@ -41,6 +47,11 @@ use tally::{Tally, add_to, raise_to};
 /// How many rigs are tried.
 const TRIALS: u64 = 1000;
 
+/// Fills are followed for rigs of no more scenes than these, whose rounds are no more either.
+const FEW_SCENES: usize = 32;
+
+const FEW_ROUNDS: u64 = 6;
+
 /// Counts a rig and what the search says of it.
 fn count(tally: &mut Tally, graph: &Graph, expected: &Expected) {
     add_to(&mut tally.rigs, 1);
@@ -48,19 +59,15 @@ fn count(tally: &mut Tally, graph: &Graph, expected: &Expected) {
     raise_to(&mut tally.most_runs, expected.runs);
     add_to(&mut tally.ties, u64::from(expected.runs > 1));
     add_to(&mut tally.exhausted, u64::from(expected.is_exhausted));
-    let rounds = match expected.answer {
-        Plan::Way { moves, rounds, .. } => {
+    raise_to(&mut tally.most_rounds, expected.rounds());
+    match expected.answer {
+        Plan::Way { moves, .. } => {
             add_to(&mut tally.ways, 1);
             add_to(&mut tally.moves, moves as u64);
             raise_to(&mut tally.most_moves, moves as u64);
-            rounds
         }
-        Plan::NoWay { rounds } => {
-            add_to(&mut tally.no_ways, 1);
-            rounds
-        }
-    };
-    raise_to(&mut tally.most_rounds, rounds);
+        Plan::NoWay { .. } => add_to(&mut tally.no_ways, 1),
+    }
 }
 
 /// The trial of a number: its sequence begins at that state.
@@ -79,6 +86,9 @@ fn trial(alloc: Global, number: u64, tally: &mut Tally) -> anyhow::Result<()> {
     };
     case.on_flat(graph.size())?;
     case.on_diagrams(tally)?;
+    if graph.size() <= FEW_SCENES && expected.rounds() <= FEW_ROUNDS {
+        rooms_tried(alloc, &rig, &plain, &expected, tally)?;
+    }
     tried(alloc, &rig, &plain)?;
     add_to(&mut tally.written, 1);
     read_tried(alloc, &mut draws, &rig, &plain, tally)?;

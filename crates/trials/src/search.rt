@@ -21,6 +21,15 @@ pub struct Expected {
     pub is_exhausted: bool,
 }
 
+impl Expected {
+    /// How many rounds made some scene cheaper.
+    pub fn rounds(&self) -> u64 {
+        match self.answer {
+            Plan::Way { rounds, .. } | Plan::NoWay { rounds } => rounds,
+        }
+    }
+}
+
 /// The run whose number is smaller at the first place where it differs from any other.
 fn first_of(runs: &[Vec<u8>]) -> Option<&Vec<u8>> {
     let mut first = runs.first()?;

@@ -1,5 +1,5 @@
 //! What the trials saw, counted, so that a kind that never came would show.
-ghost use Rattle.std.specs.Prelude.{◌≡◌, ◌+◌, ◌-◌, ◌^◌, min};
+ghost use Rattle.std.specs.Prelude.{◌≡◌, ◌+◌, ◌-◌, ◌^◌, max, min};
 
 use std::io;
 
@@ -32,6 +32,10 @@ pub struct Tally {
     pub most_rounds: u64,
     /// Plans with "no room", for each capacity.
     pub no_rooms: [u64; SIZES],
+    /// Rigs planned with as many node slots as the rule needs, and with fewer.
+    pub filled: u64,
+    pub hangings: u64,
+    pub most_parts: u64,
     pub written: u64,
     pub read_back: u64,
     /// Damaged files that were read.
@@ -48,7 +52,9 @@ pub fn add_to(count: &mut u64, more: u64)
 }
 
 /// Raises a greatest number to another.
-pub fn raise_to(greatest: &mut u64, number: u64) {
+pub fn raise_to(greatest: &mut u64, number: u64)
+    ensures { greatest.new ≡ max greatest.old number }
+{
     *greatest = number.max(*greatest);
 }
 
@@ -67,6 +73,9 @@ impl Tally {
             most_runs: 0,
             most_rounds: 0,
             no_rooms: [0; SIZES],
+            filled: 0,
+            hangings: 0,
+            most_parts: 0,
             written: 0,
             read_back: 0,
             accepted: 0,
@@ -111,7 +120,12 @@ impl Tally {
         for (slots, count) in CAPACITIES.iter().zip(&self.no_rooms) {
             println!(rt; "no room in {slots} node slots: {count}")?;
         }
-        Ok(())
+        println!(rt;
+            "rigs planned with as many node slots as needed: {}",
+            self.filled
+        )?;
+        println!(rt; "hangings of their rule: {}", self.hangings)?;
+        println!(rt; "most node slots needed: {}", self.most_parts)
     }
 
     fn print_files(&self, rt: &impl Print) -> io::Result<()> {
