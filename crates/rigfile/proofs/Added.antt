@@ -1,12 +1,12 @@
 -- A move added to a rig, as its definition says. Assumes nothing.
-use Rattle.std.proofs.Common.{◌≡◌, ℕ, ◌+◌, List, ◌++◌, length, Some, Ok, Err, Result, sym, refl, ap, ◌∙◌, subst}
+use Rattle.std.proofs.Common.{◌≡◌, ℕ, List, ◌++◌, length, Some, Ok, Err, Result, sym, refl, ap, ◌∙◌, subst}
 use Rattle.std.proofs.lemmas.List.{length-set}
 use Rattle.model.specs.Moves.{Move}
 use Rattle.model.specs.Refusals.{left_by}
 use Rattle.model.specs.Contents.{Contents, with_slot}
 use Rattle.model.specs.Calls.{adds, added}
 use Rattle.format.specs.Files.{Entry, entry}
-use Rattle.format.specs.Reading.{Untaken, unless_refused}
+use Rattle.format.specs.Reading.{unless_refused}
 use Rattle.format.proofs.Parts.{entry_prefix}
 use Rattle.rigfile.specs.declared.unread.ReadFault.{ReadFault}
 use Rattle.rigfile.specs.Reading.{untaken}

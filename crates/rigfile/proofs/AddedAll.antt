@@ -1,5 +1,5 @@
 -- Moves added to a rig one after another. Assumes nothing.
-use Rattle.std.proofs.Common.{◌≡◌, ℕ, ◌+◌, ◌-◌, ◌<◌, ◌≤◌, List, [], ◌∷◌, ◌++◌, length, drop, Some, Ok, Err, Result, sym, ap, ◌∙◌, arith, length-append}
+use Rattle.std.proofs.Common.{◌≡◌, ℕ, ◌+◌, ◌-◌, ◌<◌, ◌≤◌, List, [], ◌∷◌, length, drop, Some, Ok, Err, Result, sym, ap, ◌∙◌, arith, length-append}
 use Rattle.std.specs.List.{flat_map}
 use Rattle.std.proofs.lemmas.List.{length-drop, drop-drop}
 use Rattle.model.specs.Contents.{Contents, with_slot}
@@ -8,7 +8,7 @@ use Rattle.format.specs.Files.{Entry, entry}
 use Rattle.format.specs.Reading.{Untaken, unless_refused, adding}
 use Rattle.rigfile.specs.declared.unread.ReadFault.{ReadFault}
 use Rattle.rigfile.specs.Reading.{untaken}
-use Rattle.rigfile.specs.Adding.{ended, AddsNext}
+use Rattle.rigfile.specs.Adding.{AddsNext}
 
 -- i of the moves are added, and what is left of them gives the same
 abbrev pub Partway : ℕ → ℕ → ℕ → ℕ → List ℕ → List ℕ → Contents → Contents → Type 0

@@ -1,13 +1,12 @@
 -- Written and read back, read and written back. Assumes nothing.
-use Rattle.std.proofs.Common.{◌≡◌, ℕ, Bool, true, false, List, ◌++◌, length, take, drop, Ok, Err, Result, sym, refl, ap, ◌∙◌}
+use Rattle.std.proofs.Common.{◌≡◌, ℕ, Bool, true, false, List, length, take, drop, Ok, Err, Result, sym, refl, ap, ◌∙◌}
 use Rattle.std.proofs.Math.Seq.{take-append_seam}
 use Rattle.std.specs.Bool.{Decides}
 use Rattle.std.proofs.lemmas.Bool.{false≢true}
 use Rattle.std.proofs.lemmas.Slice.Eq.{bytes_eq-Decides}
 use Rattle.std.specs.Str.{bytes_eq}
 use Rattle.model.specs.Contents.{Contents}
-use Rattle.format.specs.Files.{Listing, Held, bytes, listing, file}
-use Rattle.format.specs.Reading.{Untaken, taken}
+use Rattle.format.specs.Files.{Held, bytes, listing, file}
 use Rattle.format.proofs.Whole.{shaped}
 use Rattle.format.proofs.Taking.{taken_back}
 use Rattle.format.proofs.Taken.{lists_as_taken}

@@ -1,5 +1,5 @@
 -- What a read answers and leaves. Assumes nothing.
-use Rattle.std.specs.Prelude.{◌≡◌, ℕ, List, replicate, Some, None, Ok, Err, vec_items, vec_len, Option, Result, Vec}
+use Rattle.std.specs.Prelude.{◌≡◌, ℕ, List, replicate, None, Ok, Err, vec_items, vec_len, Option, Result, Vec}
 use Rattle.std.specs.declared.alloc.Global.{Global}
 use Rattle.model.specs.Contents.{Contents}
 use Rattle.moves.specs.declared.entry.Move.{Move}

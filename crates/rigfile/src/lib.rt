@@ -11,6 +11,8 @@ pub mod promises;
 pub mod read;
 mod sizes;
 mod taker;
+#[cfg(test)]
+mod tests;
 pub mod unread;
 pub mod write;
 mod writer;

@@ -1,4 +1,4 @@
-use Rattle.std.proofs.Common.{◌≡◌, ◌-◌, ◌++◌, length, Ok, Err, refl, ap, ◌∙◌, rules}
+use Rattle.std.proofs.Common.{◌≡◌, ◌-◌, ◌++◌, length, Ok, Err, refl, ◌∙◌, rules}
 use Rattle.model.specs.Calls.{adds, added}
 use Rattle.format.specs.Files.{entry}
 use Rattle.rig.specs.Rigs.{contents}

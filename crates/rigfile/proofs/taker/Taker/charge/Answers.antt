@@ -1,4 +1,3 @@
-use Rattle.std.proofs.Common.{arith}
 use Rattle.framing.proofs.Moves.{no_toll}
 use Rattle.rigfile.proofs.taker.Taker.charge.Goals as goal
 
