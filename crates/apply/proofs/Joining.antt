@@ -58,7 +58,7 @@ module _ {op : Op} {nodes : List (Option Node)} {shape : Shape} {l : ℕ} {a b :
   abbrev inner : Chart
   inner = goal op nodes shape l (edge_of (rest_of a ws.left)) (edge_of (rest_of b ws.right))
 
-  whole_is : goal op nodes shape l a b ≡ later (Some ws.base) inner
+  pub whole_is : goal op nodes shape l a b ≡ later (Some ws.base) inner
   whole_is =
       let ns = drop l shape in
       let A = chart nodes ns (edge_of (rest_of a 0)) in

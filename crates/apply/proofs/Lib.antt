@@ -3,3 +3,5 @@ pub mod Zips
 pub mod Answering
 pub mod Pairs
 pub mod Joining
+-- a sum with a chart that is 0 throughout: Zeros
+pub mod Zeros

@@ -26,15 +26,15 @@ pub fn join(diagrams: &mut Diagrams, op: Op, level: usize, a: Edge, b: Edge) -> 
     };
     let weights = split(op, weight_a, weight_b);
     // where no device remains the child is 0, as in every edge to the terminal
-    let same = Edge {
+    let left = Edge {
         weight: Some(weights.base),
         child: a.child,
     };
     if level == diagrams.store.devices() {
-        return Some(same);
+        return Some(left);
     }
     if op == Op::Cheaper && a.child == b.child {
-        return Some(same);
+        return Some(left);
     }
     let x = TimedEdge {
         weight: weights.left,
@@ -44,6 +44,16 @@ pub fn join(diagrams: &mut Diagrams, op: Op, level: usize, a: Edge, b: Edge) -> 
         weight: weights.right,
         child: b.child,
     };
+    // a sum with a chart that is 0 throughout, as below every constant and every dial, is the other chart
+    if op == Op::Sum && diagrams.store.is_zero(level, Edge::from(y)) {
+        return Some(left);
+    }
+    if op == Op::Sum && diagrams.store.is_zero(level, Edge::from(x)) {
+        return Some(Edge {
+            child: b.child,
+            ..left
+        });
+    }
     let rest = join_nodes(diagrams, op, level, x, y)?;
     Some(raise(rest, weights.base))
 }

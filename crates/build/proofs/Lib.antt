@@ -10,3 +10,5 @@ pub mod Spreads
 pub mod Sides
 -- a store that grows: Grown
 pub mod Grown
+-- whether a chart is 0 throughout: Zeros
+pub mod Zeros

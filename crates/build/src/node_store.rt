@@ -18,3 +18,4 @@ pub struct NodeStore {
 pub mod growing;
 pub mod opening;
 pub mod reading;
+pub mod zero;

@@ -23,6 +23,14 @@ pub fn node_at(nodes: &[Option<Node>], i: u16) -> Node
     taken(nodes, usize::from(i)).unwrap_or(NO_NODE)
 }
 
+/// The greatest time below the node in a slot.
+// Not by `node_at`, which copies the node.
+fn most_at(nodes: &[Option<Node>], i: u16) -> Option<u64>
+    ensures { result ≡ (stores.node_at nodes.now i).most }
+{
+    nodes.get(usize::from(i))?.as_ref()?.most
+}
+
 /// The greatest time below an edge that leads to a level, its weight apart.
 fn below(nodes: &[Option<Node>], settings: &[u8], level: usize, e: Edge) -> Option<u64>
     requires { level ≤ length settings.now }
@@ -31,7 +39,7 @@ fn below(nodes: &[Option<Node>], settings: &[u8], level: usize, e: Edge) -> Opti
     if level == settings.len() {
         Some(0)
     } else {
-        node_at(nodes, e.child).most
+        most_at(nodes, e.child)
     }
 }
 
@@ -41,7 +49,8 @@ pub fn reach(nodes: &[Option<Node>], settings: &[u8], level: usize, e: Edge) -> 
     requires timely { late (plus e.weight (stores.below nodes.now (drop level settings.now) e)) ≡ false }
     ensures { result ≡ plus e.weight (stores.below nodes.now (drop level settings.now) e) }
 {
-    plus(e.weight, below(nodes, settings, level, e))
+    let weight = e.weight?;
+    plus(Some(weight), below(nodes, settings, level, e))
 }
 
 /// The greatest time of some edges that lead to a level.

@@ -1,6 +1,6 @@
 -- How a diagram shelf opens. Assumes nothing.
 use Rattle.std.specs.Prelude.{◌≡◌, ℕ, ◌∷◌, [], replicate, Some, None, Option, Ok, Err, Result}
-use Rattle.model.specs.Limits.{outside, peg_count}
+use Rattle.model.specs.Limits.{outside, most_nodes, peg_count}
 use Rattle.model.specs.Refusals.{refuse, answer}
 use Rattle.model.specs.Scenes.{Shape, shape_off}
 use Rattle.model.specs.Shelves.{Meaning, diagram_fill}
@@ -17,7 +17,7 @@ number NoMemory = None
 
 -- a diagram shelf needs node slots
 abbrev pub diagram_opens : Shape → ℕ → Result (Unit {0}) ℕ
-diagram_opens ns slots = answer (refuse 1 (shape_off ns) ∷ refuse 3 (outside 1 65535 slots) ∷ []) tt
+diagram_opens ns slots = answer (refuse 1 (shape_off ns) ∷ refuse 3 (outside 1 most_nodes slots) ∷ []) tt
 
 -- and opens with every peg bare
 abbrev pub diagram_opened : Shape → ℕ → Meaning

@@ -10,6 +10,8 @@ use nodes::edge::Edge;
 pub struct Charts<const N: usize> {
     pub diagrams: Diagrams,
     pub pegs: [Option<Edge>; N],
+    /// How many of a sample of slots may be taken before the store is collected early. Only speed depends on it.
+    pub limit: usize,
     ghost as_many: { length pegs ≡ N },
     ghost held: { Held diagrams.store pegs } by { held_prop diagrams.store pegs },
 }

@@ -1,12 +1,18 @@
 -- The library's tests over a list, as the definitions see them. Assumes nothing.
 use Rattle.std.proofs.Common.{◌≡◌, Bool, true, false, cond, ◌&&◌, ◌||◌, List, [], ◌∷◌, map, refl, ap, ◌∙◌}
-use Rattle.std.specs.List.{list_any, list_all}
-use Rattle.model.specs.Lists.{every, some, repeats}
+use Rattle.std.specs.List.{list_any, list_all, zip}
+use Rattle.model.specs.Lists.{every, some, some_two, repeats}
 
 -- the library's words for the same tests
 pub any_is_some : {X : Type 0} (t : X → Bool) (xs : List X) → list_any t xs ≡ some t xs
 any_is_some t [] = refl
 any_is_some t (x ∷ xs) = ap (λ (b : Bool). t x || b) (any_is_some t xs)
+
+-- a test of two lists side by side
+pub any_is_some_two : {X Y : Type 0} (t : X → Y → Bool) (xs : List X) (ys : List Y) → list_any (λ p. t p.0 p.1) (zip xs ys) ≡ some_two t xs ys
+any_is_some_two t [] ys = refl
+any_is_some_two t (x ∷ xs) [] = refl
+any_is_some_two t (x ∷ xs) (y ∷ ys) = ap (λ (b : Bool). t x y || b) (any_is_some_two t xs ys)
 
 both : (a b c : Bool) → b ≡ c → (a && b) ≡ cond a c false
 both true b c e = e

@@ -1,7 +1,7 @@
 //! Counts, and whether they lie within their limits.
-ghost use Rattle.std.specs.Prelude.{◌≡◌};
+ghost use Rattle.std.specs.Prelude.{◌≡◌, nat_le};
 ghost use Rattle.model.specs.Limits.{outside};
-ghost use Rattle.model.specs.Lists.{some};
+ghost use Rattle.model.specs.Lists.{some, some_two};
 ghost use Rattle.model.specs.Scenes.{shape_off as is_shape_off};
 
 use crate::limits::*;
@@ -29,4 +29,14 @@ pub fn shape_off(settings: &[u8]) -> bool
     // A cast, since no `From` leads from `usize` to `u8`; the number is 8.
     !(1..=MOST_DEVICES).contains(&settings.len())
         || some_outside(LEAST_SETTINGS, MOST_SETTINGS as u8, settings)
+}
+
+/// Whether some setting is too high for its device.
+pub fn some_high(settings: &[u8], scene: &[u8]) -> bool
+    ensures { result ≡ some_two nat_le settings.now scene.now }
+{
+    settings
+        .iter()
+        .zip(scene)
+        .any(|(count, setting)| count <= setting)
 }

@@ -23,5 +23,7 @@ pub const MOST_TESTS: usize = 3;
 pub const MOST_TENTHS: u32 = 65_535;
 /// The greatest time that a chart may have.
 pub const MOST_TIME: u64 = 1_000_000_000_000_000_000;
+/// How many node slots a diagram shelf may have.
+pub const MOST_NODES: usize = 65_535;
 /// How many pegs a shelf has.
 pub const PEGS: usize = 8;

@@ -27,6 +27,10 @@ pub record Recalled (memo : List (Option Remembered)) (key : Key) (e : Edge) : T
 abbrev pub Added : List (Option Remembered) → List (Option Remembered) → Remembered → Type 0
 Added old new x = (k : ℕ) (y : Remembered) → slot new k ≡ Some y → (slot old k ≡ Some y) ⊎ (y ≡ x)
 
+-- every entry of the new ones is one of the old
+abbrev pub Fewer : List (Option Remembered) → List (Option Remembered) → Type 0
+Fewer old new = (k : ℕ) (y : Remembered) → slot new k ≡ Some y → slot old k ≡ Some y
+
 -- a result is right for a key: it has the chart that the operation makes
 pub record Right (nodes : List (Option Node)) (shape : Shape) (key : Key) (result : Edge) : Type 0 where
   pub left : Fine nodes (drop key.level shape) key.level key.left

@@ -10,6 +10,8 @@ use nodes::remembered::Remembered;
 pub struct Diagrams {
     pub store: NodeStore,
     memo: Vec<Option<Remembered>>,
+    // how many results were put into the slots since they were cleared; only speed depends on it
+    kept: usize,
     ghost known: { Knows (nodes_in store) (shape_in store) memo.items } by { knows_prop (nodes_in store) (shape_in store) memo.items },
 }
 

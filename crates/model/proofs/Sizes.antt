@@ -56,10 +56,6 @@ size_pow (n ∷ ns) h =
 pub size_most : (ns : Shape) → some count_off ns ≡ false → length ns ≤ 12 → size ns ≤ 8 ^ 12
 size_most ns h l = omega (arith, size_pow ns h, pow-le-pow_right {n = 8} (lit< tt) l)
 
-pub size_append : (ns ms : Shape) → size (ns ++ ms) ≡ size ns * size ms
-size_append [] ms = sym (one-mul (size ms))
-size_append (n ∷ ns) ms = ap (λ x. n * x) (size_append ns ms) ∙ sym (mul_assoc n (size ns) (size ms))
-
 -- the devices before one, that one, and those after it
 pub size_split : (ns : Shape) (v : ℕ) → v < length ns → size ns ≡ size (take v ns) * (get_or ns v 0 * size (drop (v + 1) ns))
 size_split [] v h = absurd (omega arith)

@@ -40,6 +40,10 @@ most_tests = 3
 abbrev pub most_tenths : ℕ
 most_tenths = 65535
 
+-- of a diagram shelf
+abbrev pub most_nodes : ℕ
+most_nodes = 65535
+
 -- a chart's times
 abbrev pub greatest_time : ℕ
 greatest_time = 1000000000000000000

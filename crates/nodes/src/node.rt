@@ -36,6 +36,6 @@ impl Entry for Node {
     }
 
     fn start(&self, slots: usize) -> usize {
-        hash::start(self.level, &self.edges, slots)
+        hash::start(u32::from(self.level), &self.edges, slots)
     }
 }

@@ -1,5 +1,5 @@
-ghost use Rattle.std.specs.Prelude.{◌≡◌};
-ghost use Rattle.nodes.specs.Keys.{SameKey, initial_of};
+ghost use Rattle.std.specs.Prelude.{◌≡◌, ◌^◌, ◌<◌};
+ghost use Rattle.nodes.specs.Keys.{SameKey, first_of, initial_of, rank as the_rank};
 ghost use Rattle.std.proofs.Common.{rules};
 
 use crate::edge::Edge;
@@ -29,6 +29,27 @@ pub struct Key {
     pub right: Edge,
 }
 
+impl Operation {
+    /// A number that tells operations apart.
+    fn rank(self) -> u32
+        ensures value { result ≡ the_rank self }
+        ensures bound { result < 2 ^ 17 }
+    {
+        match self {
+            Operation::Join(Op::Cheaper) => 0,
+            Operation::Join(Op::Sum) => 1,
+            Operation::Put(device, setting) => 2 + 256 * u32::from(device) + u32::from(setting),
+        }
+    }
+
+    /// What is mixed first where a search for a result of the operation starts.
+    fn first(self, level: u8) -> u32
+        ensures { result ≡ first_of self level }
+    {
+        256 * self.rank() + u32::from(level)
+    }
+}
+
 /// The result of an operation.
 #[derive(Clone, Copy)]
 pub struct Remembered {
@@ -55,7 +76,8 @@ impl Entry for Remembered {
     }
 
     fn start(&self, slots: usize) -> usize {
+        let first = self.key.operation.first(self.key.level);
         let edges = [self.key.left, self.key.right];
-        hash::start(self.key.level, &edges, slots)
+        hash::start(first, &edges, slots)
     }
 }

@@ -1,4 +1,4 @@
--- Two lists side by side: Pairs; a table with one slot rewritten: Storing; what a call answers and leaves: Answering; an edit: Editing; an opening: OpeningSeen
+-- masks and a scene side by side: Pairs; a table with one slot rewritten: Storing; what a call answers and leaves: Answering; an edit: Editing; an opening: OpeningSeen
 pub mod Pairs
 pub mod Storing
 pub mod Answering

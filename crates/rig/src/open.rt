@@ -1,10 +1,12 @@
-//! Open: a rig with every slot vacant and every setting wanted.
-ghost use Rattle.std.specs.Prelude.{◌≡◌, ◌≤◌, false, map, length, vec_len, MatchOption};
+//! Open: a rig with every slot vacant and every setting wanted; and a rig given up for its table.
+ghost use Rattle.std.specs.Prelude.{◌≡◌, ◌≤◌, false, map, length, vec_items, vec_len, MatchOption};
 ghost use Rattle.lists.specs.Shorts.{listed};
 ghost use Rattle.model.specs.Limits.{least_settings, most_settings};
 ghost use Rattle.model.specs.Scenes.{shape_off};
 ghost use Rattle.model.specs.Masks.{all_of};
+ghost use Rattle.moves.specs.Views.{slot_of};
 ghost use Rattle.rig.specs.Openings.{Stood, Opened};
+ghost use Rattle.rig.specs.Rigs.{contents};
 
 use crate::devices::Devices;
 use crate::frame::Rig;
@@ -82,5 +84,12 @@ impl Rig {
             }
             Err(fault) => Err(Unopened { fault, slots }),
         }
+    }
+
+    /// Gives the rig up for its table of moves.
+    pub fn into_slots(self) -> Vec<Option<Move>>
+        ensures { map slot_of (vec_items result) ≡ (contents self).slots }
+    {
+        self.slots
     }
 }

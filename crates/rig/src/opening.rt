@@ -1,7 +1,7 @@
 //! Open: what is looked at, and what it leaves.
-ghost use Rattle.std.specs.Prelude.{◌≡◌, nat_le};
+ghost use Rattle.std.specs.Prelude.{◌≡◌};
 ghost use Rattle.model.specs.Limits.{outside, least_byte, most_byte};
-ghost use Rattle.model.specs.Lists.{some, some_two};
+ghost use Rattle.model.specs.Lists.{some};
 ghost use Rattle.model.specs.Calls.{counts_off as are_counts_off, opens};
 ghost use Rattle.moves.specs.Faults.{numbered};
 
@@ -18,16 +18,6 @@ fn some_name_off(names: &[Name]) -> bool
     names
         .iter()
         .any(|name| some_outside(LEAST_BYTE, MOST_BYTE, name))
-}
-
-/// Whether some setting is too high for its device.
-fn some_high(settings: &[u8], scene: &[u8]) -> bool
-    ensures { result ≡ some_two nat_le settings.now scene.now }
-{
-    settings
-        .iter()
-        .zip(scene)
-        .any(|(count, setting)| count <= setting)
 }
 
 /// Whether there are too few or too many devices or settings, or a list has not one item per device.

@@ -1,5 +1,5 @@
 //! What a rig holds, to be read.
-ghost use Rattle.std.specs.Prelude.{◌≡◌, map, vec_items};
+ghost use Rattle.std.specs.Prelude.{◌≡◌, map};
 ghost use Rattle.model.specs.Calls.{Lawful};
 ghost use Rattle.moves.specs.Views.{slot_of};
 ghost use Rattle.rig.specs.Rigs.{contents};
@@ -43,12 +43,5 @@ impl Rig {
         ensures { map slot_of result.now ≡ (contents self.now).slots }
     {
         self.slots.as_slice()
-    }
-
-    /// Gives the rig up for its table of moves.
-    pub fn into_slots(self) -> Vec<Option<Move>>
-        ensures { map slot_of (vec_items result) ≡ (contents self).slots }
-    {
-        self.slots
     }
 }

@@ -3,3 +3,4 @@ pub mod Reading
 pub mod Taking
 pub mod Adding
 pub mod Fronts
+pub mod Promises

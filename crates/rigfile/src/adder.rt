@@ -26,7 +26,12 @@ impl Taker<'_> {
     }
 
     /// Adds so many moves of a file of so many bytes. The first that the rig refuses ends it.
-    pub(crate) fn add_all(&mut self, count: u8, total: usize, rig: &mut Rig) -> Result<(), ReadFault>
+    pub(crate) fn add_all(
+        &mut self,
+        count: u8,
+        total: usize,
+        rig: &mut Rig,
+    ) -> Result<(), ReadFault>
         requires laid { Laid self.old }
         requires within { length self.old.reader.rest.now ≤ total }
         ensures answer { AddsAll count (total - length self.old.reader.rest.now) self.old.reader.rest.now (contents rig.old) result (contents rig.new) }

@@ -7,9 +7,12 @@ mod entries;
 pub mod fault;
 mod front;
 mod pairs;
+pub mod promises;
 pub mod read;
 mod sizes;
 mod taker;
+#[cfg(test)]
+mod tests;
 pub mod unread;
 pub mod write;
 mod writer;

@@ -43,26 +43,25 @@ impl ReadFault {
     }
 }
 
+// What happened, where, and what would help, a line each.
 impl fmt::Display for ReadFault {
     fn fmt<W: fmt::Write>(&self, f: &mut fmt::Formatter<W>) -> fmt::Result {
-        let number = self.number();
-        let byte = self.byte();
         match self {
             ReadFault::BadFrame => write!(
                 f,
-                "refused {number}: the bytes are no rig file; write the file anew from its rig"
+                "refused 20: the bytes are no rig file\nwhere: in version, zero byte, offsets, length, counts or the order of move numbers\nwhat would help: a file as it was written, whole and with nothing behind it"
             ),
-            ReadFault::NotOpened(_) => write!(
+            ReadFault::NotOpened(fault) => write!(
                 f,
-                "refused {number}: the devices, their scene or the table of moves cannot be opened; correct the devices, or read into a table of 1 to 255 slots"
+                "{fault}\nwhere: in the devices, the present scene or the table of slots\nwhat would help: other devices or another scene in the file, or a table of 1 to 255 slots"
             ),
-            ReadFault::NotWanted(_) => write!(
+            ReadFault::NotWanted(fault) => write!(
                 f,
-                "refused {number}: a mask wants no setting, or one that its device has not; correct the masks"
+                "{fault}\nwhere: in the masks\nwhat would help: masks in the file that admit a setting of each device, and none that it has not"
             ),
-            ReadFault::NotAdded { .. } => write!(
+            ReadFault::NotAdded { fault, byte } => write!(
                 f,
-                "refused {number}: the move that begins at byte {byte} cannot be added; correct it, or read into a longer table"
+                "{fault}\nwhere: in the move that begins at byte {byte}\nwhat would help: another move there, or a longer table of slots if it is the number that is too high"
             ),
         }
     }

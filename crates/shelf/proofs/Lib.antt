@@ -1,4 +1,3 @@
 pub mod Placing
 pub mod Products
-pub mod Pairs
 pub mod Calling

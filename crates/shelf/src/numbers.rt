@@ -1,13 +1,13 @@
 //! What the numbers of a call name.
-ghost use Rattle.std.specs.Prelude.{◌≡◌, ◌<◌, length, MatchResult, nat_le};
+ghost use Rattle.std.specs.Prelude.{◌≡◌, ◌<◌, length, MatchResult};
 ghost use Rattle.model.specs.Limits.{peg_count};
-ghost use Rattle.model.specs.Lists.{some_two};
 ghost use Rattle.model.specs.Refusals.{answer};
 ghost use Rattle.model.specs.Shelves.{scene_checks};
 ghost use Rattle.shelf.specs.Faults.{numbered};
 ghost use Rattle.shelf.specs.Numbers.{Names, High};
 
 use crate::fault::ShelfFault;
+use lists::counts::some_high;
 use lists::limits::PEGS;
 
 /// A number below that of the pegs.
@@ -38,16 +38,6 @@ pub fn device_of(settings: &[u8], number: u8) -> Result<usize, ShelfFault>
     (device < settings.len())
         .then_some(device)
         .ok_or(ShelfFault::DeviceHigh)
-}
-
-/// Whether some setting is too high for its device.
-fn some_high(settings: &[u8], scene: &[u8]) -> bool
-    ensures { result ≡ some_two nat_le settings.now scene.now }
-{
-    settings
-        .iter()
-        .zip(scene)
-        .any(|(count, setting)| count <= setting)
 }
 
 /// Whether a scene has one setting for each device, none too high for it.

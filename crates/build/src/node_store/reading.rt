@@ -1,4 +1,4 @@
-ghost use Rattle.std.specs.Prelude.{◌≡◌, ◌<◌, ◌≤◌, false, length, slice_index};
+ghost use Rattle.std.specs.Prelude.{◌≡◌, ◌<◌, ◌≤◌, min, false, length, take, count_by, is_some, slice_index};
 ghost use Rattle.model.specs.Charts.{late, greatest as greatest_of};
 ghost use Rattle.model.specs.Lists.{some};
 ghost use Rattle.store.specs.Stores as stores;
@@ -9,6 +9,9 @@ use crate::node_store::NodeStore;
 use crate::reach::{node_at, reach};
 use nodes::edge::Edge;
 use nodes::node::Node;
+
+/// How many slots tell how crowded all are.
+pub const SAMPLE: usize = 64;
 
 impl NodeStore {
     /// The slots, each free or with a node.
@@ -30,6 +33,18 @@ impl NodeStore {
         ensures value { result ≡ length (nodes_in self.now) }
     {
         self.nodes.len()
+    }
+
+    /// How many of the first slots, up to 64 of them, are taken. Nodes lie evenly, so it tells how crowded all slots are.
+    pub fn crowd(&self) -> usize
+        ensures value { result ≡ count_by is_some (take (min (length (nodes_in self.now)) 64) (nodes_in self.now)) }
+        ensures few { result ≤ 64 }
+    {
+        let nodes = self.as_slice();
+        nodes[..nodes.len().min(SAMPLE)]
+            .iter()
+            .filter(|slot| slot.is_some())
+            .count()
     }
 
     /// The number of settings of each device.

@@ -7,14 +7,12 @@ use crate::diagram_shelf::DiagramShelf;
 use crate::open_fault::OpenFault;
 use build::node_store::NodeStore;
 use hang::charts::Charts;
+use hang::charts::retry::LEAST_LIMIT;
 use lists::counts::shape_off;
-use lists::limits::{MOST_DEVICES, PEGS};
+use lists::limits::{MOST_DEVICES, MOST_NODES, PEGS};
 use lists::short::Short;
 use memo::diagrams::Diagrams;
 use std::alloc::{AllocError, Global};
-
-/// The most node slots that a diagram shelf has.
-const MOST_NODES: usize = 65_535;
 
 /// How many settings each device has, where a shelf of them may open with so many node slots.
 fn judged(settings: &[u8], slots: usize) -> Result<Short<u8, MOST_DEVICES>, OpenFault>
@@ -42,10 +40,11 @@ impl DiagramShelf {
         let store = NodeStore::of(counts, vec![in heap; None; slots]?);
         let spare = NodeStore::of(counts, vec![in heap; None; slots]?);
         let moved = vec![in heap; None; slots]?;
-        let diagrams = Diagrams::of(store, vec![in heap; None; slots]?);
+        let diagrams = Diagrams::of(store, vec![in heap; None; 2 * slots]?);
         let charts = Charts {
             diagrams,
             pegs: [None; PEGS],
+            limit: LEAST_LIMIT,
         };
         Ok(DiagramShelf {
             charts,

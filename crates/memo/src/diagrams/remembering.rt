@@ -1,7 +1,7 @@
 ghost use Rattle.std.specs.Prelude.{◌≡◌, MatchOption, IfSome};
 ghost use Rattle.table.specs.Tables.{Empty};
 ghost use Rattle.build.specs.Grew.{nodes_in, shape_in};
-ghost use Rattle.memo.specs.Results.{Unknown, Recalled, Added, Knows, Right};
+ghost use Rattle.memo.specs.Results.{Unknown, Recalled, Added, Fewer, Knows, Right};
 
 use crate::diagrams::Diagrams;
 use crate::results::{recall, remember};
@@ -28,7 +28,8 @@ impl Diagrams {
         ensures store { result.store ≡ store }
         ensures memo { result.memo ≡ memo }
     {
-        Diagrams { store, memo }
+        let kept = memo.iter().flatten().count();
+        Diagrams { store, memo, kept }
     }
 
     /// The result that is remembered for the key, if there is one.
@@ -39,13 +40,34 @@ impl Diagrams {
         recall(self.memo.as_slice(), key)
     }
 
-    /// Remembers a result. Where no slot is free, all others are forgotten.
+    /// Forgets every result where three quarters of the slots are taken: from there on a search would pass many of them.
+    fn make_room(&mut self)
+        ensures store { self.new.store ≡ self.old.store }
+        ensures fewer { Fewer self.old.memo.items self.new.memo.items }
+    {
+        if self.kept >= 3 * (self.memo.len() / 4) {
+            self.forget();
+        }
+    }
+
+    /// Puts a result into the slots. Where none is free, all others are forgotten.
+    fn keep(&mut self, x: Remembered)
+        requires right { Right (nodes_in self.old.store) (shape_in self.old.store) x.key x.result }
+        ensures store { self.new.store ≡ self.old.store }
+        ensures added { Added self.old.memo.items self.new.memo.items x }
+    {
+        self.kept = self.kept.saturating_add(1);
+        remember(self.memo.as_mut_slice(), x)
+    }
+
+    /// Remembers a result. Where the slots are crowded, all others are forgotten.
     pub fn remember(&mut self, x: Remembered)
         requires right { Right (nodes_in self.old.store) (shape_in self.old.store) x.key x.result }
         ensures store { self.new.store ≡ self.old.store }
         ensures added { Added self.old.memo.items self.new.memo.items x }
     {
-        remember(self.memo.as_mut_slice(), x)
+        self.make_room();
+        self.keep(x);
     }
 
     /// Forgets every result.
@@ -54,6 +76,7 @@ impl Diagrams {
         ensures empty { Empty self.new.memo.items }
     {
         clear(self.memo.as_mut_slice());
+        self.kept = 0;
     }
 
     /// Changes places with another store, and forgets every result.

@@ -6,6 +6,7 @@ use Rattle.build.proofs.Grown.{grew_none, ready_in}
 use Rattle.build.proofs.Sides.{weight_timely}
 use Rattle.memo.specs.Results.{Right}
 use Rattle.apply.proofs.Answering.{answer_left, answer_right, answer_leaf, answer_same}
+use Rattle.apply.proofs.Zeros.{sum_is_left, sum_is_right}
 use Rattle.apply.proofs.Joining.{sides_of, pair_of, two, two_below, two_left, two_right, two_all, next_of, rest_joinable, rest_stuck, rest_timely, rest_stands, rest_grew, raise_left, raise_right, kid_joinable, join_grew, join_stuck, join_more, kids_makeable, join_made, join_built, join_right}
 use Rattle.apply.proofs.join.+joins.Goals as goal
 
@@ -36,6 +37,20 @@ pub join-returns-then-a-b : goal.join-returns-then-a-b
 join-returns-then-a-b t c =
     let store = c.args.diagrams.now.store in
     record { grew = grew_none store c.args.level _; built = answer_same c.args.op (nodes_in store) (shape_in store) c.args.level c.args.a c.args.b c.in-Some.weight_a c.in-Some-weight.weight_b c.split-weights.result (search rules) c.if-a-b.true c.in-Some.is c.in-Some-weight.is c.split-weights.ensures c.requires.joinable.left.fine }
+
+pub join-returns-then-is_zero : goal.join-returns-then-is_zero
+join-returns-then-is_zero t c =
+    let store = c.args.diagrams.now.store in
+    let sides = sides_of c.requires.joinable c.in-Some.is c.in-Some-weight.is c.split-weights.ensures in
+    let zero = rw c.from.ensures at c.is_zero.ensures in
+    record { grew = grew_none store c.args.level _; built = sum_is_left sides store.ready.store (search rules) (zero.0 c.if-is_zero.true) }
+
+pub join-returns-then-is_zero-2 : goal.join-returns-then-is_zero-2
+join-returns-then-is_zero-2 t c =
+    let store = c.args.diagrams.now.store in
+    let sides = sides_of c.requires.joinable c.in-Some.is c.in-Some-weight.is c.split-weights.ensures in
+    let zero = rw c.from-then-eq-3.ensures at c.is_zero-then-eq-3.ensures in
+    record { grew = grew_none store c.args.level _; built = sum_is_right sides store.ready.store (search rules) (zero.0 c.if-is_zero-2.true) }
 
 pub join-join_nodes-requires : goal.join-join_nodes-requires
 join-join_nodes-requires t c =

@@ -2,7 +2,7 @@ use Rattle.std.proofs.Common.{◌∙◌, rules, tests}
 use Rattle.std.proofs.lemmas.Iterator.{YieldsList-from_slice, YieldsList-from_zip}
 use Rattle.std.proofs.lemmas.Iterator.Search.{any_from_yields_List}
 use Rattle.model.specs.Masks.{ill}
-use Rattle.rig.proofs.Pairs.{any_is_some_two}
+use Rattle.lists.proofs.Loops.{any_is_some_two}
 use Rattle.rig.proofs.masks.some_ill.Goals as goal
 
 pub returns : goal.returns

@@ -2,7 +2,7 @@ use Rattle.std.proofs.Common.{◌≡◌, length, vec_len, vec_items, arith}
 use Rattle.std.proofs.lemmas.List.{with_items_is}
 use Rattle.build.specs.Grew.{nodes_in, shape_in}
 use Rattle.memo.proofs.Keeps.{knows_added}
-use Rattle.memo.proofs.diagrams.Diagrams.remember.Goals as goal
+use Rattle.memo.proofs.diagrams.Diagrams.keep.Goals as goal
 
 pub invariant_of-self : goal.invariant_of-self
 invariant_of-self c =

@@ -1,8 +1,8 @@
 use Rattle.std.proofs.Common.{leb, ◌∙◌, rules, tests}
 use Rattle.std.proofs.lemmas.Iterator.{YieldsList-from_slice, YieldsList-from_zip}
 use Rattle.std.proofs.lemmas.Iterator.Search.{any_from_yields_List}
-use Rattle.rig.proofs.Pairs.{any_is_some_two}
-use Rattle.rig.proofs.opening.some_high.Goals as goal
+use Rattle.lists.proofs.Loops.{any_is_some_two}
+use Rattle.lists.proofs.counts.some_high.Goals as goal
 
 pub returns : goal.returns
 returns c =
