@@ -94,7 +94,10 @@ fn contestant<'a>(who: Who, rig: &'a Rig, file: &'a [u8]) -> Run<'a, Said> {
 fn agreed(rig: &Rig, said: &Said, expected: &Answer) {
     match said {
         Said::Planned(answer) => same(rig, "a contestant", answer, expected),
-        Said::Found(found) => assert!(expected.agrees(found), "the forward search differs on {rig:?}"),
+        Said::Found(found) => assert!(
+            expected.agrees(found),
+            "the forward search differs on {rig:?}"
+        ),
     }
 }
 
@@ -102,7 +105,7 @@ impl Row {
     /// The names of the columns that `tabbed` writes.
     pub fn head() -> String {
         let names = ALL.map(|(_, name)| name).join("\t");
-        format!("rig\tdevices\tscenes\tmoves\trounds\tfill\tnodes\tbase_ms\t{names}")
+        format!("rig\tdevices\tscenes\tmoves\trounds\tfill\tnodes\tbase_ms\t{names}\tflat_to_rows")
     }
 
     /// Plans the rig in every way that there is, as often as a median asks.
@@ -116,9 +119,13 @@ impl Row {
         let others = ALL.iter().zip(present).filter(|(_, present)| *present);
         runs.extend(others.map(|((who, _), _)| contestant(*who, rig, &file)));
         let times = medians(&mut runs);
-        times.iter().for_each(|(_, said)| agreed(rig, said, &expected));
+        times
+            .iter()
+            .for_each(|(_, said)| agreed(rig, said, &expected));
         let base = times[0].0;
-        let mut times = times[1..].iter().map(|(time, _)| time.as_secs_f64() / base.as_secs_f64());
+        let mut times = times[1..]
+            .iter()
+            .map(|(time, _)| time.as_secs_f64() / base.as_secs_f64());
         Row {
             name: rig.name.clone(),
             devices: rig.settings.len(),
@@ -132,20 +139,45 @@ impl Row {
         }
     }
 
+    /// The flat shelf beside plain rows, which make the same calls.
+    fn flat_to_rows(&self) -> Option<f64> {
+        let [.., rows, flat] = self.ratios;
+        Some(flat? / rows?)
+    }
+
     fn written(&self, none: &str) -> Vec<String> {
-        let mut cells = vec![format!("{:.2}", self.base.as_secs_f64() * 1000.0)];
-        cells.extend(self.ratios.iter().map(|ratio| ratio.map_or(none.to_string(), |ratio| format!("{ratio:.2}"))));
-        cells
+        let ratios = self.ratios.iter().copied().chain([self.flat_to_rows()]);
+        let ratios =
+            ratios.map(|ratio| ratio.map_or(none.to_string(), |ratio| format!("{ratio:.2}")));
+        let base = format!("{:.2}", self.base.as_secs_f64() * 1000.0);
+        std::iter::once(base).chain(ratios).collect()
     }
 
     pub fn tabbed(&self) -> String {
-        let Row { name, devices, scenes, moves, rounds, fill, nodes, .. } = self;
+        let Row {
+            name,
+            devices,
+            scenes,
+            moves,
+            rounds,
+            fill,
+            nodes,
+            ..
+        } = self;
         let cells = self.written("").join("\t");
         format!("{name}\t{devices}\t{scenes}\t{moves}\t{rounds}\t{fill}\t{nodes}\t{cells}")
     }
 
     fn line(&self) -> String {
-        let Row { name, scenes, moves, rounds, fill, nodes, .. } = self;
+        let Row {
+            name,
+            scenes,
+            moves,
+            rounds,
+            fill,
+            nodes,
+            ..
+        } = self;
         let cells = self.written("–").join(" | ");
         format!("| {name} | {scenes} | {moves} | {rounds} | {fill} | {nodes} | {cells} |")
     }
@@ -153,12 +185,17 @@ impl Row {
 
 /// The table of these rigs, a line for each, as Markdown.
 pub fn table(rigs: &[Rig]) -> String {
-    let head = "| rig | scenes | moves | rounds | peak fill | nodes made | base, ms | unverified diagrams, 65,535 slots | library, 65,535 slots | unverified diagrams, 512 slots | library, 512 slots | dense iteration | forward search | plain rows | library, flat |";
+    let head = "| rig | scenes | moves | rounds | peak fill | nodes made | base, ms | unverified diagrams, 65,535 slots | library, 65,535 slots | unverified diagrams, 512 slots | library, 512 slots | dense iteration | forward search | plain rows | library, flat | library, flat, to plain rows |";
     let rule = "|---|".to_string() + &"---|".repeat(head.matches('|').count() - 2);
     let lines = rigs.iter().map(|rig| {
         let line = Row::of(rig).line();
         eprintln!("{line}");
         line
     });
-    [head.to_string(), rule].into_iter().chain(lines).collect::<Vec<_>>().join("\n") + "\n"
+    [head.to_string(), rule]
+        .into_iter()
+        .chain(lines)
+        .collect::<Vec<_>>()
+        .join("\n")
+        + "\n"
 }

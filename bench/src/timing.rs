@@ -36,5 +36,6 @@ pub fn medians<T>(runs: &mut [Run<T>]) -> Vec<(Duration, T)> {
         }
     }
     let both = times.iter_mut().zip(gave);
-    both.map(|(times, gave)| (median(times), gave.expect("each has run"))).collect()
+    both.map(|(times, gave)| (median(times), gave.expect("each has run")))
+        .collect()
 }
