@@ -66,12 +66,12 @@ fn write_growth(rows: &[Row]) -> std::io::Result<()> {
 fn main() -> std::io::Result<()> {
     let quick = std::env::args().any(|word| word == "quick");
     println!("{}\n", agree::check(if quick { 50 } else { 300 }));
-    let rigs = if quick {
-        growing()
-    } else {
-        whole().into_iter().chain(large()).collect()
-    };
-    println!("{}", table(&rigs));
     let rows: Vec<Row> = growing().iter().map(Row::of).collect();
-    write_growth(&rows)
+    write_growth(&rows)?;
+    println!("{}", table(&rows));
+    if !quick {
+        let rows: Vec<Row> = whole().iter().chain(&large()).map(Row::of).collect();
+        println!("{}", table(&rows));
+    }
+    Ok(())
 }

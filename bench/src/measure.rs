@@ -126,7 +126,7 @@ impl Row {
         let mut times = times[1..]
             .iter()
             .map(|(time, _)| time.as_secs_f64() / base.as_secs_f64());
-        Row {
+        let row = Row {
             name: rig.name.clone(),
             devices: rig.settings.len(),
             scenes: rig.scenes(),
@@ -136,7 +136,9 @@ impl Row {
             nodes,
             base,
             ratios: present.map(|present| present.then(|| times.next()).flatten()),
-        }
+        };
+        eprintln!("{}", row.line());
+        row
     }
 
     /// The flat shelf beside plain rows, which make the same calls.
@@ -184,18 +186,10 @@ impl Row {
 }
 
 /// The table of these rigs, a line for each, as Markdown.
-pub fn table(rigs: &[Rig]) -> String {
+pub fn table(rows: &[Row]) -> String {
     let head = "| rig | scenes | moves | rounds | peak fill | nodes made | base, ms | unverified diagrams, 65,535 slots | library, 65,535 slots | unverified diagrams, 512 slots | library, 512 slots | dense iteration | forward search | plain rows | library, flat | library, flat, to plain rows |";
     let rule = "|---|".to_string() + &"---|".repeat(head.matches('|').count() - 2);
-    let lines = rigs.iter().map(|rig| {
-        let line = Row::of(rig).line();
-        eprintln!("{line}");
-        line
-    });
-    [head.to_string(), rule]
-        .into_iter()
-        .chain(lines)
-        .collect::<Vec<_>>()
-        .join("\n")
-        + "\n"
+    let lines = rows.iter().map(Row::line);
+    let all = [head.to_string(), rule].into_iter().chain(lines);
+    all.collect::<Vec<_>>().join("\n") + "\n"
 }

@@ -9,7 +9,7 @@ const LEAST: usize = 3;
 const MOST: usize = 51;
 
 /// For how long they all run, once each has run as often as it must.
-const ENOUGH: Duration = Duration::from_millis(1500);
+const ENOUGH: Duration = Duration::from_millis(1000);
 
 /// For how long they run at most; those that are left out then have run once at least.
 const TOO_LONG: Duration = Duration::from_secs(40);
