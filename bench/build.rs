@@ -7,7 +7,9 @@ fn toolchain_c() -> Option<PathBuf> {
     let page = Command::new("rt").arg("doc").output().ok()?;
     let page = String::from_utf8(page.stdout).ok()?;
     let folders = Path::new(page.trim()).ancestors();
-    folders.map(|folder| folder.join("c")).find(|c| c.join("liblibc_c.a").is_file())
+    folders
+        .map(|folder| folder.join("c"))
+        .find(|c| c.join("liblibc_c.a").is_file())
 }
 
 fn main() {
@@ -19,7 +21,10 @@ fn main() {
         return;
     };
     println!("cargo:rustc-cfg=library");
-    println!("cargo:rustc-link-search=native={}", out.canonicalize().expect("a folder").display());
+    println!(
+        "cargo:rustc-link-search=native={}",
+        out.canonicalize().expect("a folder").display()
+    );
     println!("cargo:rustc-link-search=native={}", c.display());
     println!("cargo:rustc-link-lib=static=embed");
     println!("cargo:rustc-link-lib=static=libc_c");

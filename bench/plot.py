@@ -12,7 +12,7 @@ LEFT, RIGHT, TOP, BOTTOM = 60, 150, 40, 45
 # The lines of the left panel: a ratio's column, its label and colour. The base is 1 times itself.
 TIMES = [
     (None, "unverified diagrams", "#1f77b4"),
-    ("library", "library, 65,535 slots", "#d62728"),
+    ("library_large", "library, 65,535 slots", "#d62728"),
     ("library_small", "library, 512 slots", "#ff7f0e"),
     ("dense", "dense iteration", "#2ca02c"),
     ("search", "forward search", "#9467bd"),

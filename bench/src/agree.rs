@@ -20,7 +20,12 @@ fn narrow(rig: &Rig, file: &[u8]) -> bool {
         let expected = rule::plan(rig, &mut shelf);
         full += u32::from(matches!(expected, Answer::NoRoom { .. }));
         if let Some(answer) = library(file, On::Nodes(slots)) {
-            same(rig, &format!("the library on {slots} slots"), &answer, &expected);
+            same(
+                rig,
+                &format!("the library on {slots} slots"),
+                &answer,
+                &expected,
+            );
         }
     }
     full > 0
@@ -36,7 +41,10 @@ fn one(rig: &Rig) -> bool {
         let answer = rule::plan(rig, &mut Diagrams::of(rig, capacity));
         same(rig, "the unverified diagrams", &answer, &expected);
     }
-    assert!(expected.agrees(&search::plan(rig)), "the forward search differs on {rig:?}");
+    assert!(
+        expected.agrees(&search::plan(rig)),
+        "the forward search differs on {rig:?}"
+    );
     for on in [On::Nodes(65_535), On::Cells] {
         if let Some(answer) = library(&file, on) {
             same(rig, "the library", &answer, &expected);
@@ -50,6 +58,10 @@ fn one(rig: &Rig) -> bool {
 pub fn check(rigs: u64) -> String {
     let ways = (0..rigs).filter(|seed| one(&random(*seed))).count();
     let linked = library(&random(0).file(), On::Cells).is_some();
-    let who = if linked { "the library and the unverified Rust" } else { "the unverified Rust (the library is not linked)" };
+    let who = if linked {
+        "the library and the unverified Rust"
+    } else {
+        "the unverified Rust (the library is not linked)"
+    };
     format!("{rigs} random rigs, {ways} with a way: {who} agree in verdict, time, moves and rounds, and in the round and the move at which too few slots run full.")
 }

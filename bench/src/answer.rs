@@ -2,10 +2,19 @@
 
 #[derive(Clone, Debug, PartialEq, Eq)]
 pub enum Answer {
-    Way { moves: Vec<u8>, time: u64, rounds: u64 },
-    NoWay { rounds: u64 },
+    Way {
+        moves: Vec<u8>,
+        time: u64,
+        rounds: u64,
+    },
+    NoWay {
+        rounds: u64,
+    },
     /// The charts need more nodes than there are slots: in which round, and at which move, if one was worked on.
-    NoRoom { round: u64, number: Option<u8> },
+    NoRoom {
+        round: u64,
+        number: Option<u8>,
+    },
     /// Refused under another number.
     Refused(u8),
 }

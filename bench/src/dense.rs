@@ -4,7 +4,10 @@ use crate::rig::{Move, Rig, Scene};
 use crate::rule::{walk, NEVER};
 
 fn place(settings: &[u8], scene: &Scene) -> usize {
-    settings.iter().zip(scene).fold(0, |at, (n, s)| at * usize::from(*n) + usize::from(*s))
+    settings
+        .iter()
+        .zip(scene)
+        .fold(0, |at, (n, s)| at * usize::from(*n) + usize::from(*s))
 }
 
 /// Turns a scene into the next one in order; false after the last.
@@ -27,13 +30,18 @@ struct Arcs {
 }
 
 fn arcs(rig: &Rig, entry: &Move) -> Arcs {
-    let mut arcs = Arcs { from: Vec::new(), to: Vec::new(), time: Vec::new() };
+    let mut arcs = Arcs {
+        from: Vec::new(),
+        to: Vec::new(),
+        time: Vec::new(),
+    };
     let mut scene = [0; 12];
     let mut at = 0;
     loop {
         if entry.allowed(&scene) {
             arcs.from.push(at);
-            arcs.to.push(place(&rig.settings, &entry.after(&scene)) as u32);
+            arcs.to
+                .push(place(&rig.settings, &entry.after(&scene)) as u32);
             arcs.time.push(entry.time(&scene) as u32);
         }
         at += 1;
@@ -82,6 +90,10 @@ pub fn plan(rig: &Rig) -> Answer {
     let time_from = |scene: &Scene| times[place(&rig.settings, scene)];
     match time_from(&rig.scene) {
         NEVER => Answer::NoWay { rounds },
-        time => Answer::Way { moves: walk(rig, time_from), time, rounds },
+        time => Answer::Way {
+            moves: walk(rig, time_from),
+            time,
+            rounds,
+        },
     }
 }

@@ -10,7 +10,10 @@ struct Edge {
     child: u32,
 }
 
-const NO_EDGE: Edge = Edge { weight: NEVER, child: 0 };
+const NO_EDGE: Edge = Edge {
+    weight: NEVER,
+    child: 0,
+};
 
 #[derive(Clone, Copy, PartialEq, Eq, Hash)]
 struct Node {
@@ -43,7 +46,11 @@ pub struct Diagrams {
 }
 
 fn raised(edge: Edge, by: u64) -> Edge {
-    let weight = if edge.weight == NEVER { NEVER } else { edge.weight + by };
+    let weight = if edge.weight == NEVER {
+        NEVER
+    } else {
+        edge.weight + by
+    };
     Edge { weight, ..edge }
 }
 
@@ -65,13 +72,23 @@ impl Diagrams {
 
     fn make(&mut self, level: usize, mut edges: [Edge; 8]) -> Edge {
         let count = self.settings[level];
-        let low = edges[..count].iter().map(|edge| edge.weight).min().unwrap_or(NEVER);
+        let low = edges[..count]
+            .iter()
+            .map(|edge| edge.weight)
+            .min()
+            .unwrap_or(NEVER);
         if low != NEVER && low != 0 {
-            for edge in edges[..count].iter_mut().filter(|edge| edge.weight != NEVER) {
+            for edge in edges[..count]
+                .iter_mut()
+                .filter(|edge| edge.weight != NEVER)
+            {
                 edge.weight -= low;
             }
         }
-        let node = Node { level: level as u8, edges };
+        let node = Node {
+            level: level as u8,
+            edges,
+        };
         let next = self.nodes.len() as u32;
         let child = *self.unique.entry(node).or_insert(next);
         if child == next {
@@ -87,8 +104,13 @@ impl Diagrams {
     }
 
     fn constant(&mut self, level: usize, time: u64) -> Edge {
-        let leaf = Edge { weight: time, child: 0 };
-        (level..self.settings.len()).rev().fold(leaf, |kid, level| self.spread(level, kid))
+        let leaf = Edge {
+            weight: time,
+            child: 0,
+        };
+        (level..self.settings.len())
+            .rev()
+            .fold(leaf, |kid, level| self.spread(level, kid))
     }
 
     fn dialled(&mut self, device: usize, entries: &Entries) -> Edge {
@@ -97,7 +119,9 @@ impl Diagrams {
             *edge = self.constant(device + 1, *time);
         }
         let fan = self.make(device, edges);
-        (0..device).rev().fold(fan, |kid, level| self.spread(level, kid))
+        (0..device)
+            .rev()
+            .fold(fan, |kid, level| self.spread(level, kid))
     }
 
     fn lesser(&mut self, level: usize, a: Edge, b: Edge) -> Edge {
@@ -109,7 +133,10 @@ impl Diagrams {
         }
         let base = a.weight.min(b.weight);
         if level == self.settings.len() || a.child == b.child {
-            return Edge { weight: base, child: a.child };
+            return Edge {
+                weight: base,
+                child: a.child,
+            };
         }
         let (a, b) = if a.child < b.child { (a, b) } else { (b, a) };
         let key = (a.child, b.child, a.weight - base, b.weight - base);
@@ -118,8 +145,9 @@ impl Diagrams {
         }
         let (x, y) = (self.nodes[a.child as usize], self.nodes[b.child as usize]);
         let mut edges = [NO_EDGE; 8];
-        for i in 0..self.settings[level] {
-            edges[i] = self.lesser(level + 1, raised(x.edges[i], key.2), raised(y.edges[i], key.3));
+        for (i, edge) in edges[..self.settings[level]].iter_mut().enumerate() {
+            let (left, right) = (raised(x.edges[i], key.2), raised(y.edges[i], key.3));
+            *edge = self.lesser(level + 1, left, right);
         }
         let result = self.make(level, edges);
         self.cheaper.insert(key, result);
@@ -135,7 +163,10 @@ impl Diagrams {
         }
         let base = a.weight + b.weight;
         if level == self.settings.len() {
-            return Edge { weight: base, child: 0 };
+            return Edge {
+                weight: base,
+                child: 0,
+            };
         }
         let key = (a.child.min(b.child), a.child.max(b.child));
         if let Some(known) = self.sum.get(&key) {
@@ -143,8 +174,8 @@ impl Diagrams {
         }
         let (x, y) = (self.nodes[key.0 as usize], self.nodes[key.1 as usize]);
         let mut edges = [NO_EDGE; 8];
-        for i in 0..self.settings[level] {
-            edges[i] = self.added(level + 1, x.edges[i], y.edges[i]);
+        for (i, edge) in edges[..self.settings[level]].iter_mut().enumerate() {
+            *edge = self.added(level + 1, x.edges[i], y.edges[i]);
         }
         let result = self.make(level, edges);
         self.sum.insert(key, result);
@@ -157,15 +188,18 @@ impl Diagrams {
         }
         let node = self.nodes[e.child as usize];
         if level == usize::from(pair.device) {
-            return self.spread(level, raised(node.edges[usize::from(pair.setting)], e.weight));
+            return self.spread(
+                level,
+                raised(node.edges[usize::from(pair.setting)], e.weight),
+            );
         }
         let key = (e.child, pair.device, pair.setting);
         if let Some(known) = self.put.get(&key) {
             return raised(*known, e.weight);
         }
         let mut edges = [NO_EDGE; 8];
-        for i in 0..self.settings[level] {
-            edges[i] = self.placed(level + 1, pair, node.edges[i]);
+        for (i, edge) in edges[..self.settings[level]].iter_mut().enumerate() {
+            *edge = self.placed(level + 1, pair, node.edges[i]);
         }
         let result = self.make(level, edges);
         self.put.insert(key, result);
@@ -177,7 +211,9 @@ impl Diagrams {
         match self.capacity {
             Capacity::Growing => self.pegs[target] = Some(chart),
             Capacity::Counted => {
-                self.fill = self.fill.max(self.reached(chart).iter().filter(|seen| **seen).count());
+                self.fill = self
+                    .fill
+                    .max(self.reached(chart).iter().filter(|seen| **seen).count());
                 self.pegs[target] = Some(chart);
             }
             Capacity::Slots(slots) => {
@@ -199,7 +235,11 @@ impl Diagrams {
             let node = &self.nodes[i as usize];
             let level = usize::from(node.level);
             if level + 1 < self.settings.len() {
-                open.extend(node.edges[..self.settings[level]].iter().map(|edge| edge.child));
+                open.extend(
+                    node.edges[..self.settings[level]]
+                        .iter()
+                        .map(|edge| edge.child),
+                );
             }
         }
         seen
@@ -234,7 +274,10 @@ impl Diagrams {
         for edge in self.pegs.iter_mut().flatten() {
             edge.child = moved[edge.child as usize];
         }
-        Ok(Edge { child: moved[chart.child as usize], ..chart })
+        Ok(Edge {
+            child: moved[chart.child as usize],
+            ..chart
+        })
     }
 
     fn peg(&self, peg: usize) -> Edge {
@@ -277,6 +320,10 @@ impl Shelf for Diagrams {
             time += edge.weight;
             edge = self.nodes[edge.child as usize].edges[usize::from(*setting)];
         }
-        if edge.weight == NEVER { NEVER } else { time + edge.weight }
+        if edge.weight == NEVER {
+            NEVER
+        } else {
+            time + edge.weight
+        }
     }
 }

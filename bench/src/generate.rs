@@ -14,19 +14,41 @@ pub enum Kind {
 }
 
 fn pair(device: usize, setting: usize) -> Pair {
-    Pair { device: device as u8, setting: setting as u8 }
+    Pair {
+        device: device as u8,
+        setting: setting as u8,
+    }
 }
 
 /// One step of a device from one setting to the next or the one before.
-fn step(kind: Kind, devices: usize, settings: usize, device: usize, from: usize, to: usize) -> Move {
+fn step(
+    kind: Kind,
+    devices: usize,
+    settings: usize,
+    device: usize,
+    from: usize,
+    to: usize,
+) -> Move {
     let mut conditions = vec![pair(device, from)];
     let parks = kind != Kind::Steps && device % 3 == 1 && from == settings / 2 && to > from;
     if parks {
         conditions.push(pair(device - 1, 0));
     }
-    let neighbour = if device + 1 < devices { device + 1 } else { device - 1 };
-    let hot = Surcharge { tests: vec![pair(neighbour, settings - 1)], extra: 7 + 2 * (device % 2) as u16 };
-    Move { conditions, effects: vec![pair(device, to)], base: 10 + (device % 3) as u16, surcharges: vec![hot] }
+    let neighbour = if device + 1 < devices {
+        device + 1
+    } else {
+        device - 1
+    };
+    let hot = Surcharge {
+        tests: vec![pair(neighbour, settings - 1)],
+        extra: 7 + 2 * (device % 2) as u16,
+    };
+    Move {
+        conditions,
+        effects: vec![pair(device, to)],
+        base: 10 + (device % 3) as u16,
+        surcharges: vec![hot],
+    }
 }
 
 /// A rig of so many devices, each with so many settings. Every second device starts high; wanted is that the first half of
@@ -41,13 +63,24 @@ pub fn structured(kind: Kind, devices: usize, settings: usize) -> Rig {
     }
     if kind == Kind::Reset {
         let effects = (0..devices).map(|device| pair(device, 0)).collect();
-        moves.push(Move { conditions: Vec::new(), effects, base: 40, surcharges: Vec::new() });
+        moves.push(Move {
+            conditions: Vec::new(),
+            effects,
+            base: 40,
+            surcharges: Vec::new(),
+        });
     }
     let mut scene = [0; 12];
     for device in (0..devices).step_by(2) {
         scene[device] = settings as u8 - 1;
     }
-    let wanted = |device: usize| if 2 * device < devices { 1 << (settings - 1) } else { 0b11 };
+    let wanted = |device: usize| {
+        if 2 * device < devices {
+            1 << (settings - 1)
+        } else {
+            0b11
+        }
+    };
     let word = match kind {
         Kind::Steps => "steps",
         Kind::Parked => "parked",
@@ -84,7 +117,10 @@ fn random_move(random: &mut Random, settings: &[u8]) -> Move {
         surcharges: (0..surcharges)
             .map(|_| {
                 let tests = 1 + random.below(2) as usize;
-                Surcharge { tests: pairs(random, settings, tests), extra: 1 + random.below(40) as u16 }
+                Surcharge {
+                    tests: pairs(random, settings, tests),
+                    extra: 1 + random.below(40) as u16,
+                }
             })
             .collect(),
     }
@@ -99,9 +135,20 @@ pub fn random(seed: u64) -> Rig {
     for (setting, count) in scene.iter_mut().zip(&settings) {
         *setting = random.below(u64::from(*count)) as u8;
     }
-    let masks = settings.iter().map(|count| 1 + random.below((1 << count) - 1) as u8).collect();
-    let moves = (0..20 + random.below(40)).map(|_| random_move(random, &settings)).collect();
-    Rig { name: format!("random {seed}"), settings, scene, masks, moves }
+    let masks = settings
+        .iter()
+        .map(|count| 1 + random.below((1 << count) - 1) as u8)
+        .collect();
+    let moves = (0..20 + random.below(40))
+        .map(|_| random_move(random, &settings))
+        .collect();
+    Rig {
+        name: format!("random {seed}"),
+        settings,
+        scene,
+        masks,
+        moves,
+    }
 }
 
 /// A rig with structure in which only so many devices are to be changed, and the others may stand as they like.

@@ -26,7 +26,10 @@ impl Hasher for Quick {
     }
 
     fn write_u64(&mut self, word: u64) {
-        self.0 = self.0.wrapping_add(word).wrapping_mul(0xF135_7AEA_2E62_A9C5);
+        self.0 = self
+            .0
+            .wrapping_add(word)
+            .wrapping_mul(0xF135_7AEA_2E62_A9C5);
     }
 
     fn write_usize(&mut self, word: usize) {

@@ -33,8 +33,19 @@ mod linked {
     }
 
     extern "C" {
-        fn zomraey_plan(file: *const u8, len: usize, nodes: usize, sheet: *mut u8, room: usize) -> PlanAnswer;
-        fn zomraey_plan_flat(file: *const u8, len: usize, sheet: *mut u8, room: usize) -> PlanAnswer;
+        fn zomraey_plan(
+            file: *const u8,
+            len: usize,
+            nodes: usize,
+            sheet: *mut u8,
+            room: usize,
+        ) -> PlanAnswer;
+        fn zomraey_plan_flat(
+            file: *const u8,
+            len: usize,
+            sheet: *mut u8,
+            room: usize,
+        ) -> PlanAnswer;
     }
 
     fn call(file: &[u8], on: On, sheet: &mut [u8]) -> PlanAnswer {
@@ -51,9 +62,18 @@ mod linked {
         let mut sheet = [0; 4096];
         let said = call(file, on, &mut sheet);
         Some(match said.verdict {
-            0 => Answer::Way { moves: sheet[..said.moves].to_vec(), time: said.time, rounds: said.rounds },
-            1 => Answer::NoWay { rounds: said.rounds },
-            _ if said.refusal == 18 => Answer::NoRoom { round: said.rounds, number: said.in_move.then_some(said.number) },
+            0 => Answer::Way {
+                moves: sheet[..said.moves].to_vec(),
+                time: said.time,
+                rounds: said.rounds,
+            },
+            1 => Answer::NoWay {
+                rounds: said.rounds,
+            },
+            _ if said.refusal == 18 => Answer::NoRoom {
+                round: said.rounds,
+                number: said.in_move.then_some(said.number),
+            },
             _ => Answer::Refused(said.refusal),
         })
     }

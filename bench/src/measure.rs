@@ -5,16 +5,49 @@ use crate::diagrams::{Capacity, Diagrams};
 use crate::library::{plan as library, On};
 use crate::rig::Rig;
 use crate::rows::Rows;
-use crate::timing::median;
+use crate::timing::{medians, Run};
 use crate::{dense, rule, search};
 use std::time::Duration;
 
 /// The most scenes of a rig that is planned scene by scene.
 const MOST_SCENES: u64 = 70_000;
 
-/// Times of one rig, each as a ratio to the time of the unverified diagrams in a growing table.
+/// The node slots of a small and of a large shelf.
+const SMALL: usize = 512;
+const LARGE: usize = 65_535;
+
+/// Who is measured beside the base, by columns.
+#[derive(Clone, Copy, PartialEq, Eq)]
+enum Who {
+    Diagrams(usize),
+    Library(usize),
+    Dense,
+    Search,
+    Rows,
+    Flat,
+}
+
+const ALL: [(Who, &str); 8] = [
+    (Who::Diagrams(LARGE), "diagrams_large"),
+    (Who::Library(LARGE), "library_large"),
+    (Who::Diagrams(SMALL), "diagrams_small"),
+    (Who::Library(SMALL), "library_small"),
+    (Who::Dense, "dense"),
+    (Who::Search, "search"),
+    (Who::Rows, "rows"),
+    (Who::Flat, "library_flat"),
+];
+
+/// What a contestant says: an answer, or what a search by scenes finds, which counts no rounds.
+enum Said {
+    Planned(Answer),
+    Found(Option<(u64, Vec<u8>)>),
+}
+
+/// One rig measured: the base, which is the unverified diagrams in a growing table, and ratios to its time.
 pub struct Row {
     name: String,
+    devices: usize,
     scenes: u64,
     moves: usize,
     rounds: u64,
@@ -23,115 +56,140 @@ pub struct Row {
     /// The most nodes in the growing table.
     nodes: usize,
     base: Duration,
-    small: Option<f64>,
-    library: Option<f64>,
-    library_small: Option<f64>,
-    dense: Option<f64>,
-    search: Option<f64>,
-    rows: Option<f64>,
-    library_flat: Option<f64>,
+    ratios: [Option<f64>; ALL.len()],
 }
 
-/// Times of one rig that are still to come, all of which must say the same.
-struct Race<'a> {
-    rig: &'a Rig,
-    file: Vec<u8>,
-    base: Duration,
-    answer: Answer,
+/// Whether someone plans a rig of so many scenes and such a fill.
+fn takes_part(who: Who, rig: &Rig, fill: usize) -> bool {
+    let linked = library(&rig.file(), On::Nodes(1)).is_some();
+    let few = rig.scenes() <= MOST_SCENES;
+    match who {
+        Who::Diagrams(slots) => fill <= slots,
+        Who::Library(slots) => linked && fill <= slots,
+        Who::Dense | Who::Search | Who::Rows => few,
+        Who::Flat => linked && few,
+    }
 }
 
-impl Race<'_> {
-    fn ratio(&self, who: &str, run: impl FnMut() -> Answer) -> f64 {
-        let (time, answer) = median(run);
-        same(self.rig, who, &answer, &self.answer);
-        time.as_secs_f64() / self.base.as_secs_f64()
-    }
+fn on_diagrams(rig: &Rig, capacity: Capacity) -> Said {
+    Said::Planned(rule::plan(rig, &mut Diagrams::of(rig, capacity)))
+}
 
-    /// The unverified diagrams in so many slots, if that is room enough.
-    fn within(&self, fill: usize, slots: usize) -> Option<f64> {
-        (fill <= slots).then(|| {
-            self.ratio("the unverified diagrams", || {
-                rule::plan(self.rig, &mut Diagrams::of(self.rig, Capacity::Slots(slots)))
-            })
-        })
-    }
+fn by_library(file: &[u8], on: On) -> Said {
+    Said::Planned(library(file, on).expect("it is linked"))
+}
 
-    /// The library, where it is linked and there is room.
-    fn library(&self, room: bool, on: On) -> Option<f64> {
-        library(&self.file, On::Nodes(1))?;
-        room.then(|| self.ratio("the library", || library(&self.file, on).expect("it is linked")))
+fn contestant<'a>(who: Who, rig: &'a Rig, file: &'a [u8]) -> Run<'a, Said> {
+    match who {
+        Who::Diagrams(slots) => Box::new(move || on_diagrams(rig, Capacity::Slots(slots))),
+        Who::Library(slots) => Box::new(move || by_library(file, On::Nodes(slots))),
+        Who::Dense => Box::new(move || Said::Planned(dense::plan(rig))),
+        Who::Search => Box::new(move || Said::Found(search::plan(rig))),
+        Who::Rows => Box::new(move || Said::Planned(rule::plan(rig, &mut Rows::of(rig)))),
+        Who::Flat => Box::new(move || by_library(file, On::Cells)),
     }
+}
 
-    fn search(&self) -> f64 {
-        let (time, found) = median(|| search::plan(self.rig));
-        assert!(self.answer.agrees(&found), "the forward search differs on {:?}", self.rig);
-        time.as_secs_f64() / self.base.as_secs_f64()
+/// Panics where someone says something else than is expected.
+fn agreed(rig: &Rig, said: &Said, expected: &Answer) {
+    match said {
+        Said::Planned(answer) => same(rig, "a contestant", answer, expected),
+        Said::Found(found) => assert!(
+            expected.agrees(found),
+            "the forward search differs on {rig:?}"
+        ),
     }
 }
 
 impl Row {
-    pub const HEAD: &'static str =
-        "rig\tdevices\tscenes\tmoves\trounds\tfill\tnodes\tbase_ms\tsmall\tlibrary\tlibrary_small\tdense\tsearch\trows\tlibrary_flat";
+    /// The names of the columns that `tabbed` writes.
+    pub fn head() -> String {
+        let names = ALL.map(|(_, name)| name).join("\t");
+        format!("rig\tdevices\tscenes\tmoves\trounds\tfill\tnodes\tbase_ms\t{names}\tflat_to_rows")
+    }
 
     /// Plans the rig in every way that there is, as often as a median asks.
     pub fn of(rig: &Rig) -> Row {
-        let mut nodes = 0;
-        let (base, answer) = median(|| {
-            let mut shelf = Diagrams::of(rig, Capacity::Growing);
-            let answer = rule::plan(rig, &mut shelf);
-            nodes = shelf.most;
-            answer
-        });
         let mut counted = Diagrams::of(rig, Capacity::Counted);
-        same(rig, "the counting diagrams", &rule::plan(rig, &mut counted), &answer);
-        let fill = counted.fill;
-        let race = Race { rig, file: rig.file(), base, answer };
-        let few = rig.scenes() <= MOST_SCENES;
-        Row {
+        let expected = rule::plan(rig, &mut counted);
+        let (fill, nodes) = (counted.fill, counted.most);
+        let file = rig.file();
+        let present = ALL.map(|(who, _)| takes_part(who, rig, fill));
+        let mut runs: Vec<Run<Said>> = vec![Box::new(|| on_diagrams(rig, Capacity::Growing))];
+        let others = ALL.iter().zip(present).filter(|(_, present)| *present);
+        runs.extend(others.map(|((who, _), _)| contestant(*who, rig, &file)));
+        let times = medians(&mut runs);
+        times
+            .iter()
+            .for_each(|(_, said)| agreed(rig, said, &expected));
+        let base = times[0].0;
+        let mut times = times[1..]
+            .iter()
+            .map(|(time, _)| time.as_secs_f64() / base.as_secs_f64());
+        let row = Row {
             name: rig.name.clone(),
+            devices: rig.settings.len(),
             scenes: rig.scenes(),
             moves: rig.moves.len(),
-            rounds: race.answer.rounds().expect("an answer with rounds"),
+            rounds: expected.rounds().expect("an answer with rounds"),
             fill,
             nodes,
             base,
-            small: race.within(fill, 512),
-            library: race.library(fill <= 65_535, On::Nodes(65_535)),
-            library_small: race.library(fill <= 512, On::Nodes(512)),
-            dense: few.then(|| race.ratio("the dense iteration", || dense::plan(rig))),
-            search: few.then(|| race.search()),
-            rows: few.then(|| race.ratio("the plain rows", || rule::plan(rig, &mut Rows::of(rig)))),
-            library_flat: race.library(few, On::Cells),
-        }
+            ratios: present.map(|present| present.then(|| times.next()).flatten()),
+        };
+        eprintln!("{}", row.line());
+        row
     }
 
-    fn ratios(&self) -> [Option<f64>; 7] {
-        [self.small, self.library, self.library_small, self.dense, self.search, self.rows, self.library_flat]
+    /// The flat shelf beside plain rows, which make the same calls.
+    fn flat_to_rows(&self) -> Option<f64> {
+        let [.., rows, flat] = self.ratios;
+        Some(flat? / rows?)
+    }
+
+    fn written(&self, none: &str) -> Vec<String> {
+        let ratios = self.ratios.iter().copied().chain([self.flat_to_rows()]);
+        let ratios =
+            ratios.map(|ratio| ratio.map_or(none.to_string(), |ratio| format!("{ratio:.2}")));
+        let base = format!("{:.2}", self.base.as_secs_f64() * 1000.0);
+        std::iter::once(base).chain(ratios).collect()
     }
 
     pub fn tabbed(&self) -> String {
-        let devices = self.name.split(' ').nth(1).unwrap_or("");
-        let Row { name, scenes, moves, rounds, fill, nodes, .. } = self;
-        let base = self.base.as_secs_f64() * 1000.0;
-        let ratios = self.ratios().map(|ratio| ratio.map_or(String::new(), |ratio| format!("{ratio:.3}")));
-        format!("{name}\t{devices}\t{scenes}\t{moves}\t{rounds}\t{fill}\t{nodes}\t{base:.3}\t{}", ratios.join("\t"))
+        let Row {
+            name,
+            devices,
+            scenes,
+            moves,
+            rounds,
+            fill,
+            nodes,
+            ..
+        } = self;
+        let cells = self.written("").join("\t");
+        format!("{name}\t{devices}\t{scenes}\t{moves}\t{rounds}\t{fill}\t{nodes}\t{cells}")
     }
 
     fn line(&self) -> String {
-        let Row { name, scenes, moves, rounds, fill, nodes, .. } = self;
-        let base = self.base.as_secs_f64() * 1000.0;
-        let ratios = self.ratios().map(|ratio| ratio.map_or("–".to_string(), |ratio| format!("{ratio:.2}")));
-        format!("| {name} | {scenes} | {moves} | {rounds} | {fill} | {nodes} | {base:.2} | {} |", ratios.join(" | "))
+        let Row {
+            name,
+            scenes,
+            moves,
+            rounds,
+            fill,
+            nodes,
+            ..
+        } = self;
+        let cells = self.written("–").join(" | ");
+        format!("| {name} | {scenes} | {moves} | {rounds} | {fill} | {nodes} | {cells} |")
     }
 }
 
-/// The table of these rigs, a line for each.
-pub fn table(rigs: &[Rig]) -> String {
-    let head = "| rig | scenes | moves | rounds | peak fill | nodes made | base, ms | unverified diagrams, 512 slots | library, 65,535 slots | library, 512 slots | dense iteration | forward search | plain rows | library, flat |\n|---|---|---|---|---|---|---|---|---|---|---|---|---|---|";
-    let lines = rigs.iter().map(|rig| {
-        let line = Row::of(rig).line();
-        eprintln!("{line}");
-        line
-    });
-    std::iter::once(head.to_string()).chain(lines).collect::<Vec<_>>().join("\n") + "\n"
+/// The table of these rigs, a line for each, as Markdown.
+pub fn table(rows: &[Row]) -> String {
+    let head = "| rig | scenes | moves | rounds | peak fill | nodes made | base, ms | unverified diagrams, 65,535 slots | library, 65,535 slots | unverified diagrams, 512 slots | library, 512 slots | dense iteration | forward search | plain rows | library, flat | library, flat, to plain rows |";
+    let rule = "|---|".to_string() + &"---|".repeat(head.matches('|').count() - 2);
+    let lines = rows.iter().map(Row::line);
+    let all = [head.to_string(), rule].into_iter().chain(lines);
+    all.collect::<Vec<_>>().join("\n") + "\n"
 }

@@ -69,7 +69,9 @@ impl Rig {
 
     pub fn wanted(&self, scene: &Scene) -> bool {
         let admitted = self.masks.iter().zip(scene);
-        admitted.into_iter().all(|(mask, setting)| mask >> setting & 1 == 1)
+        admitted
+            .into_iter()
+            .all(|(mask, setting)| mask >> setting & 1 == 1)
     }
 
     /// The rig's file.
@@ -99,7 +101,11 @@ fn write_pairs(file: &mut Vec<u8>, pairs: &[Pair]) {
 }
 
 fn write_move(file: &mut Vec<u8>, number: u8, entry: &Move) {
-    let counts = [entry.conditions.len(), entry.effects.len(), entry.surcharges.len()];
+    let counts = [
+        entry.conditions.len(),
+        entry.effects.len(),
+        entry.surcharges.len(),
+    ];
     file.push(number);
     file.extend(counts.map(|count| count as u8));
     file.extend(entry.base.to_le_bytes());

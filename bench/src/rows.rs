@@ -27,7 +27,11 @@ impl Rows {
     pub fn of(rig: &Rig) -> Rows {
         let scenes = rig.scenes() as usize;
         let settings = rig.settings.iter().map(|n| usize::from(*n)).collect();
-        Rows { settings, scenes, cells: vec![None; 8 * scenes] }
+        Rows {
+            settings,
+            scenes,
+            cells: vec![None; 8 * scenes],
+        }
     }
 
     fn stride(&self, device: usize) -> usize {
@@ -38,7 +42,13 @@ impl Rows {
         &self.cells[peg * self.scenes..(peg + 1) * self.scenes]
     }
 
-    fn join(&mut self, target: usize, left: usize, right: usize, op: impl Fn(Option<u64>, Option<u64>) -> Option<u64>) {
+    fn join(
+        &mut self,
+        target: usize,
+        left: usize,
+        right: usize,
+        op: impl Fn(Option<u64>, Option<u64>) -> Option<u64>,
+    ) {
         let n = self.scenes;
         for i in 0..n {
             self.cells[target * n + i] = op(self.cells[left * n + i], self.cells[right * n + i]);
@@ -87,7 +97,11 @@ impl Shelf for Rows {
     }
 
     fn at(&self, peg: usize, scene: &Scene) -> u64 {
-        let place = self.settings.iter().zip(scene).fold(0, |at, (n, s)| at * n + usize::from(*s));
+        let place = self
+            .settings
+            .iter()
+            .zip(scene)
+            .fold(0, |at, (n, s)| at * n + usize::from(*s));
         self.row(peg)[place].unwrap_or(NEVER)
     }
 }

@@ -30,7 +30,12 @@ fn admitting(mask: u8) -> Entries {
     std::array::from_fn(|setting| if mask >> setting & 1 == 1 { 0 } else { NEVER })
 }
 
-fn add_dial<S: Shelf>(shelf: &mut S, target: usize, device: u8, entries: Entries) -> Result<(), Full> {
+fn add_dial<S: Shelf>(
+    shelf: &mut S,
+    target: usize,
+    device: u8,
+    entries: Entries,
+) -> Result<(), Full> {
     shelf.dial(3, usize::from(device), &entries)?;
     shelf.sum(target, target, 3)
 }
@@ -45,7 +50,10 @@ fn round_0<S: Shelf>(shelf: &mut S, masks: &[u8]) -> Result<(), Full> {
 
 fn add_surcharge<S: Shelf>(shelf: &mut S, surcharge: &Surcharge) -> Result<(), Full> {
     let dearer = |test: &Pair| only_at(test.setting, u64::from(surcharge.extra), 0);
-    let (first, others) = surcharge.tests.split_first().expect("a surcharge has a test");
+    let (first, others) = surcharge
+        .tests
+        .split_first()
+        .expect("a surcharge has a test");
     shelf.dial(3, usize::from(first.device), &dearer(first))?;
     for test in others {
         shelf.dial(4, usize::from(test.device), &dearer(test))?;
@@ -60,7 +68,12 @@ fn lower<S: Shelf>(shelf: &mut S, entry: &Move) -> Result<(), Full> {
         shelf.put(2, 2, *effect)?;
     }
     for condition in &entry.conditions {
-        add_dial(shelf, 2, condition.device, only_at(condition.setting, 0, NEVER))?;
+        add_dial(
+            shelf,
+            2,
+            condition.device,
+            only_at(condition.setting, 0, NEVER),
+        )?;
     }
     add_dial(shelf, 2, 0, [u64::from(entry.base); 8])?;
     for surcharge in &entry.surcharges {
@@ -91,7 +104,11 @@ pub fn walk(rig: &Rig, time_from: impl Fn(&Scene) -> u64) -> Vec<u8> {
                 time <= left && time_from(&entry.after(&scene)) == left - time
             }
         };
-        let number = rig.moves.iter().position(|entry| loses_none(&entry)).expect("a move on the way");
+        let number = rig
+            .moves
+            .iter()
+            .position(|entry| loses_none(&entry))
+            .expect("a move on the way");
         left -= rig.moves[number].time(&scene);
         scene = rig.moves[number].after(&scene);
         run.push(number as u8);
@@ -122,14 +139,21 @@ fn iterate<S: Shelf>(rig: &Rig, shelf: &mut S, place: &mut Place) -> Result<(), 
 pub fn plan<S: Shelf>(rig: &Rig, shelf: &mut S) -> Answer {
     let mut place = Place::default();
     if iterate(rig, shelf, &mut place).is_err() {
-        return Answer::NoRoom { round: place.round, number: place.number };
+        return Answer::NoRoom {
+            round: place.round,
+            number: place.number,
+        };
     }
     let rounds = place.round - 1;
     match shelf.at(0, &rig.scene) {
         NEVER => Answer::NoWay { rounds },
         time => {
             let moves = walk(rig, |scene| shelf.at(0, scene));
-            Answer::Way { moves, time, rounds }
+            Answer::Way {
+                moves,
+                time,
+                rounds,
+            }
         }
     }
 }

@@ -41,7 +41,11 @@ fn reach(rig: &Rig) -> Option<Reached> {
 /// The scenes that lie on a quickest run.
 fn on_the_way(rig: &Rig, reached: &Reached) -> HashSet<Scene> {
     let mut before: HashMap<Scene, Vec<Scene>> = HashMap::new();
-    for (scene, time) in reached.times.iter().filter(|(_, time)| **time < reached.time) {
+    for (scene, time) in reached
+        .times
+        .iter()
+        .filter(|(_, time)| **time < reached.time)
+    {
         for entry in rig.moves.iter().filter(|entry| entry.allowed(scene)) {
             let next = entry.after(scene);
             if reached.times.get(&next) == Some(&(time + entry.time(scene))) {
@@ -74,7 +78,9 @@ pub fn plan(rig: &Rig) -> Option<(u64, Vec<u8>)> {
                 way.contains(&next) && reached.times[&next] == time + entry.time(&scene)
             }
         };
-        let number = (0..rig.moves.len()).find(goes_on).expect("a move on the way");
+        let number = (0..rig.moves.len())
+            .find(goes_on)
+            .expect("a move on the way");
         time += rig.moves[number].time(&scene);
         scene = rig.moves[number].after(&scene);
         run.push(number as u8);

@@ -1,22 +1,41 @@
-//! Times of several runs in one process.
+//! Times of several contestants, who run in turn in one process.
 use std::time::{Duration, Instant};
 
-/// For how long one planner is tried on one rig, once it has run as often as it must.
-const ENOUGH: Duration = Duration::from_millis(300);
+/// A contestant: what runs, and what it gives.
+pub type Run<'a, T> = Box<dyn FnMut() -> T + 'a>;
 
-/// The median time of at least three runs, and what the last of them gave; a run that takes long is not repeated.
-pub fn median<T>(mut run: impl FnMut() -> T) -> (Duration, T) {
-    let mut times = Vec::new();
+/// How often each runs at least, and at most.
+const LEAST: usize = 3;
+const MOST: usize = 51;
+
+/// For how long they all run, once each has run as often as it must.
+const ENOUGH: Duration = Duration::from_millis(1000);
+
+/// For how long they run at most; those that are left out then have run once at least.
+const TOO_LONG: Duration = Duration::from_secs(40);
+
+fn median(times: &mut [Duration]) -> Duration {
+    times.sort();
+    times[times.len() / 2]
+}
+
+/// The median time of each contestant, and what its last run gave. They take turns, so that what slows the machine slows all.
+pub fn medians<T>(runs: &mut [Run<T>]) -> Vec<(Duration, T)> {
+    let mut times = vec![Vec::new(); runs.len()];
+    let mut gave: Vec<Option<T>> = runs.iter().map(|_| None).collect();
     let begin = Instant::now();
-    loop {
-        let start = Instant::now();
-        let answer = run();
-        times.push(start.elapsed());
+    for turn in 0..MOST {
         let spent = begin.elapsed();
-        let enough = times.len() >= 3 && spent > ENOUGH || times.len() >= 101;
-        if enough || spent > 10 * ENOUGH {
-            times.sort();
-            return (times[times.len() / 2], answer);
+        if turn >= LEAST && spent > ENOUGH || turn > 0 && spent > TOO_LONG {
+            break;
+        }
+        for ((run, times), gave) in runs.iter_mut().zip(&mut times).zip(&mut gave) {
+            let start = Instant::now();
+            *gave = Some(run());
+            times.push(start.elapsed());
         }
     }
+    let both = times.iter_mut().zip(gave);
+    both.map(|(times, gave)| (median(times), gave.expect("each has run")))
+        .collect()
 }

@@ -11,9 +11,20 @@ fn toolchain_c() -> Option<PathBuf> {
 
 fn main() {
     let out = Path::new("../../crates/embed/out");
-    println!("cargo:rerun-if-changed={}", out.join("libembed.a").display());
-    println!("cargo:rustc-link-search=native={}", out.canonicalize().expect("run `rt lib` in crates/embed").display());
-    println!("cargo:rustc-link-search=native={}", toolchain_c().expect("`rt` on the path").display());
+    println!(
+        "cargo:rerun-if-changed={}",
+        out.join("libembed.a").display()
+    );
+    println!(
+        "cargo:rustc-link-search=native={}",
+        out.canonicalize()
+            .expect("run `rt lib` in crates/embed")
+            .display()
+    );
+    println!(
+        "cargo:rustc-link-search=native={}",
+        toolchain_c().expect("`rt` on the path").display()
+    );
     println!("cargo:rustc-link-lib=static=embed");
     println!("cargo:rustc-link-lib=static=libc_c");
 }

@@ -1,12 +1,10 @@
 -- The file of a rig that comes in a file, as it is or after a run. Assumes nothing.
-use Rattle.std.specs.Prelude.{◌≡◌, ℕ, ◌<◌, ◌≤◌, ◌^◌, List, [], ◌++◌, length, take, drop, slice_index, Ok, Err, Result}
+use Rattle.std.specs.Prelude.{◌≡◌, ℕ, ◌<◌, ◌≤◌, ◌^◌, List, [], length, take, slice_index, Ok, Err, Result}
 use Rattle.model.specs.Contents.{Contents}
 use Rattle.model.specs.Calls.{performs}
 use Rattle.theory.specs.Performing.{Performs}
-use Rattle.moves.specs.declared.fault.RigFault.{RigFault}
 use Rattle.moves.specs.Faults.{number}
 use Rattle.format.specs.Files.{file as file_of}
-use Rattle.rigfile.specs.declared.fault.WriteFault.{WriteFault}
 use Rattle.rigfile.specs.Writing.{Written}
 use Rattle.embed.specs.declared.ran.Ran.{Ran as Ended}
 use Rattle.embed.specs.declared.unperformed.Unperformed.{Unperformed}

@@ -3,7 +3,6 @@ use Rattle.std.specs.Prelude.{◌≡◌, ℕ, List, Ok, Err, Result}
 use Rattle.model.specs.Scenes.{Shape}
 use Rattle.model.specs.Contents.{Contents}
 use Rattle.model.specs.Shelves.{Meaning, flat_opened}
-use Rattle.diagram.specs.declared.open_fault.OpenFault.{OpenFault}
 use Rattle.diagram.specs.Openings.{diagram_opened, Unopened}
 use Rattle.steps.specs.declared.fault.PlanFault.{PlanFault}
 use Rattle.planner.specs.declared.answer.Plan.{Plan}

@@ -1,5 +1,5 @@
 -- What a file gives over a table of 255 move slots. Assumes nothing.
-use Rattle.std.specs.Prelude.{◌≡◌, ℕ, List, Ok, Err, Result}
+use Rattle.std.specs.Prelude.{◌≡◌, ℕ, List, Err, Result}
 use Rattle.model.specs.Limits.{most_slots}
 use Rattle.model.specs.Contents.{Contents}
 use Rattle.format.specs.Files.{Listing, Shaped, bytes}

@@ -1,5 +1,5 @@
 -- Answers in numbers. Assumes nothing.
-use Rattle.std.specs.Prelude.{◌≡◌, ℕ, Bool, true, false, is_some, unwrap_or, Some, None, Option, Ok, Err, Result}
+use Rattle.std.specs.Prelude.{◌≡◌, ℕ, false, is_some, unwrap_or, Option, Ok, Err, Result}
 use Rattle.moves.specs.Faults as rig
 use Rattle.diagram.specs.declared.open_fault.OpenFault.{OpenFault}
 use Rattle.diagram.specs.declared.open_fault.OpenFault.TheVariants as shelf
@@ -26,16 +26,38 @@ use Rattle.embed.specs.declared.file_answer.FileAnswer.{FileAnswer}
 abbrev pub plain : ℕ → ℕ → ℕ → ℕ → ℕ → ℕ → PlanAnswer
 plain verdict refusal moves time rounds byte =
     record {
-      verdict = verdict; refusal = refusal; call = 0; target = 0; first = 0; second = 0; third = 0;
-      in_move = false; number = 0; moves = moves; time = time; rounds = rounds; byte = byte;
+      verdict = verdict;
+      refusal = refusal;
+      call = 0;
+      target = 0;
+      first = 0;
+      second = 0;
+      third = 0;
+      in_move = false;
+      number = 0;
+      moves = moves;
+      time = time;
+      rounds = rounds;
+      byte = byte;
     }
 
 -- a refusal for want of room: the call with its numbers, the round, and the move that was worked on, if one was
 abbrev pub roomless : ℕ → ℕ → ℕ → ℕ → ℕ → ℕ → Option ℕ → PlanAnswer
 roomless call target first second third round move =
     record {
-      verdict = 2; refusal = 18; call = call; target = target; first = first; second = second; third = third;
-      in_move = is_some move; number = unwrap_or move 0; moves = 0; time = 0; rounds = round; byte = 0;
+      verdict = 2;
+      refusal = 18;
+      call = call;
+      target = target;
+      first = first;
+      second = second;
+      third = third;
+      in_move = is_some move;
+      number = unwrap_or move 0;
+      moves = 0;
+      time = 0;
+      rounds = round;
+      byte = 0;
     }
 
 abbrev pub no_room_told : Hanging → ℕ → Option ℕ → PlanAnswer

@@ -186,11 +186,13 @@ impl From<Result<Plan, Unplanned>> for PlanAnswer {
 
     fn from(answer: Result<Plan, Unplanned>) -> PlanAnswer {
         match answer {
-            Ok(Plan::Way {
-                moves,
-                time,
-                rounds,
-            }) => PlanAnswer {
+            Ok(
+                Plan::Way {
+                    moves,
+                    time,
+                    rounds,
+                },
+            ) => PlanAnswer {
                 moves,
                 time,
                 rounds,

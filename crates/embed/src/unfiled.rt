@@ -10,10 +10,7 @@ pub enum Unfiled {
     /// There is no memory for a table of moves.
     NoMemory,
     /// The file is refused: the number, and the byte where the refused move begins, or 0.
-    Refused {
-        number: u8,
-        byte: usize,
-    },
+    Refused { number: u8, byte: usize },
 }
 
 impl From<ReadFault> for Unfiled {

@@ -6,8 +6,5 @@ pub enum Unrun {
     /// It has 2 ^ 32 moves or more.
     TooLong,
     /// A move of it is refused: why, and its place in the run.
-    Refused {
-        fault: RigFault,
-        place: usize,
-    },
+    Refused { fault: RigFault, place: usize },
 }

@@ -31,7 +31,13 @@ pub struct FileAnswer {
 }
 
 extern "C" {
-    fn zomraey_plan(file: *const u8, file_length: usize, nodes: usize, sheet: *mut u8, sheet_length: usize) -> PlanAnswer;
+    fn zomraey_plan(
+        file: *const u8,
+        file_length: usize,
+        nodes: usize,
+        sheet: *mut u8,
+        sheet_length: usize,
+    ) -> PlanAnswer;
 
     fn zomraey_perform(
         file: *const u8,
@@ -44,9 +50,21 @@ extern "C" {
 }
 
 /// The moves of a plan, its time and its rounds; or the whole answer where there is no way or a refusal.
-pub fn plan<'a>(file: &[u8], nodes: usize, sheet: &'a mut [u8]) -> Result<(&'a [u8], u64, u64), PlanAnswer> {
+pub fn plan<'a>(
+    file: &[u8],
+    nodes: usize,
+    sheet: &'a mut [u8],
+) -> Result<(&'a [u8], u64, u64), PlanAnswer> {
     // Pointers and lengths are those of slices that live through the call, and only one of them is written.
-    let said = unsafe { zomraey_plan(file.as_ptr(), file.len(), nodes, sheet.as_mut_ptr(), sheet.len()) };
+    let said = unsafe {
+        zomraey_plan(
+            file.as_ptr(),
+            file.len(),
+            nodes,
+            sheet.as_mut_ptr(),
+            sheet.len(),
+        )
+    };
     match said.verdict {
         0 => Ok((&sheet[..said.moves], said.time, said.rounds)),
         _ => Err(said),
@@ -54,10 +72,21 @@ pub fn plan<'a>(file: &[u8], nodes: usize, sheet: &'a mut [u8]) -> Result<(&'a [
 }
 
 /// The file of what a run leaves, and how long it takes; or the whole answer where a file or a move is refused.
-pub fn perform<'a>(file: &[u8], run: &[u8], buffer: &'a mut [u8]) -> Result<(&'a [u8], u64), FileAnswer> {
+pub fn perform<'a>(
+    file: &[u8],
+    run: &[u8],
+    buffer: &'a mut [u8],
+) -> Result<(&'a [u8], u64), FileAnswer> {
     // As in `plan`.
     let done = unsafe {
-        zomraey_perform(file.as_ptr(), file.len(), run.as_ptr(), run.len(), buffer.as_mut_ptr(), buffer.len())
+        zomraey_perform(
+            file.as_ptr(),
+            file.len(),
+            run.as_ptr(),
+            run.len(),
+            buffer.as_mut_ptr(),
+            buffer.len(),
+        )
     };
     match done.ending {
         0 => Ok((&buffer[..done.length], done.time)),
