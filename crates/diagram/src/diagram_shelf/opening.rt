@@ -40,7 +40,7 @@ impl DiagramShelf {
         let store = NodeStore::of(counts, vec![in heap; None; slots]?);
         let spare = NodeStore::of(counts, vec![in heap; None; slots]?);
         let moved = vec![in heap; None; slots]?;
-        let diagrams = Diagrams::of(store, vec![in heap; None; 2 * slots]?);
+        let diagrams = Diagrams::of(store, vec![in heap; None; 4 * slots]?);
         let charts = Charts {
             diagrams,
             pegs: [None; PEGS],

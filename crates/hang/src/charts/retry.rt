@@ -12,13 +12,13 @@ use build::node_store::NodeStore;
 use build::node_store::reading::SAMPLE;
 use pegs::sweep::sweep;
 
-/// Three quarters of a sample of slots: a store that is less crowded is not collected early.
-pub const LEAST_LIMIT: usize = SAMPLE / 4 * 3;
+/// Fifteen sixteenths of a sample of slots: a store that is less crowded is not collected early.
+pub const LEAST_LIMIT: usize = SAMPLE / 16 * 15;
 
 /// The limit once collecting has left so many of a sample taken: half of what is free may be taken again.
 fn limit_above(crowd: usize) -> usize
     requires { crowd ≤ 64 }
-    ensures { result ≡ max 48 ((crowd + 64) / 2) }
+    ensures { result ≡ max 60 ((crowd + 64) / 2) }
 {
     LEAST_LIMIT.max((crowd + SAMPLE) / 2)
 }
