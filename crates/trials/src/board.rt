@@ -1,5 +1,5 @@
 //! Pegs with charts that are plain lists of times, and the fill of a diagram shelf at each hanging.
-use crate::parts::Parts;
+use crate::pieces::Parts;
 use crate::scenes::{setting_at, share};
 use moves::pair::Pair;
 use std::alloc::{AllocError, Global};

@@ -3,8 +3,8 @@ use crate::devices::{some_mask, some_name};
 use crate::ladder::{Ladder, climbing};
 use crate::pairs::{add_pair, some_pairs};
 use crate::plain::{PlainMove, PlainRig};
+use crate::random_times::{some_greatest, some_surcharges, some_time};
 use crate::sequence::Sequence;
-use crate::times::{some_greatest, some_surcharges, some_time};
 use moves::pair::Pair;
 use std::alloc::{AllocError, Global};
 

@@ -3,8 +3,8 @@ ghost use Rattle.std.specs.Prelude.{◌≡◌, ◌-◌};
 
 use crate::devices::some_name;
 use crate::plain::{PlainMove, PlainRig};
+use crate::random_times::{some_greatest, some_surcharges, some_time};
 use crate::sequence::Sequence;
-use crate::times::{some_greatest, some_surcharges, some_time};
 use moves::pair::Pair;
 use std::alloc::{AllocError, Global};
 

@@ -1,7 +1,7 @@
 //! Plans in exactly as many node slots as the rule needs, and in fewer.
 use crate::board::Fill;
 use crate::plain::PlainRig;
-use crate::rule::fills;
+use crate::plain_rule::fills;
 use crate::search::Expected;
 use crate::tally::{Tally, add_to, raise_to};
 use anyhow::{Context, bail, ensure};
