@@ -1,17 +1,17 @@
 //! Plays the worked evening as one show, and prints what each call answered.
 #![tactic(auto)]
 
+mod cues;
 mod evening;
 mod print;
 
-use diagram::diagram_shelf::DiagramShelf;
+use cues::cues;
 use print::answered;
-use show::cue::Cue;
 use show::play::show;
 
 fn main(rt: HostRuntime) -> anyhow::Result<()> {
     let slots = vec![in rt.alloc(); None; evening::SLOTS]?;
-    let mut cues: Vec<Cue<'_, DiagramShelf>> = evening::cues(rt.alloc())?;
+    let mut cues = cues(rt.alloc())?;
     show(
         &evening::SETTINGS,
         &evening::NAMES,
