@@ -1,6 +1,8 @@
 //! The calls of the evening, in the order in which they are made.
-ghost use Rattle.std.specs.Prelude.{◌≡◌, None};
-ghost use Rattle.show.specs.declared.cue.Cue.TheVariants as cue;
+ghost use Rattle.std.specs.Prelude.{◌≡◌, [], ◌∷◌, map, vec_items, IfOk};
+ghost use Rattle.drafts.specs.Drafts.{draft_of, charges_of};
+ghost use Rattle.showrun.specs.Calls as calls;
+ghost use Rattle.showrun.specs.Evening as evening;
 
 use crate::evening::{MOVES, ONE_MORE, SETTINGS};
 use anyhow::anyhow;
@@ -16,7 +18,7 @@ type Call = Cue<'static, DiagramShelf>;
 const NODE_SLOTS: usize = 512;
 
 fn add(number: usize, draft: &'static Draft<'static>) -> Call
-    ensures { result ≡ cue.Add number draft.entry None }
+    ensures { calls.call_of result ≡ calls.add number (draft_of draft.now) }
 {
     Cue::Add {
         number,
@@ -26,7 +28,7 @@ fn add(number: usize, draft: &'static Draft<'static>) -> Call
 }
 
 fn retime(number: usize, base: u16, charges: &'static [Charge<'static>]) -> Call
-    ensures { result ≡ cue.Retime number base charges.entry None }
+    ensures { calls.call_of result ≡ calls.retime number base (charges_of charges.now) }
 {
     Cue::Retime {
         number,
@@ -37,7 +39,7 @@ fn retime(number: usize, base: u16, charges: &'static [Charge<'static>]) -> Call
 }
 
 fn withdraw(number: usize) -> Call
-    ensures { result ≡ cue.Withdraw number None }
+    ensures { calls.call_of result ≡ calls.withdraw number }
 {
     Cue::Withdraw {
         number,
@@ -46,7 +48,7 @@ fn withdraw(number: usize) -> Call
 }
 
 fn perform(number: usize) -> Call
-    ensures { result ≡ cue.Perform number None }
+    ensures { calls.call_of result ≡ calls.perform number }
 {
     Cue::Perform {
         number,
@@ -55,16 +57,20 @@ fn perform(number: usize) -> Call
 }
 
 /// A mask for the lamp, and one for the sky.
-fn want(heap: Global, lamp: u8, sky: u8) -> anyhow::Result<Call> {
+fn want(heap: Global, lamp: u8, sky: u8) -> anyhow::Result<Call>
+    ensures { IfOk result (λ c. calls.call_of c ≡ calls.want (lamp ∷ sky ∷ [])) }
+{
     Ok(Cue::Want {
         masks: vec![in heap; lamp, sky]?,
         reply: None,
     })
 }
 
-/// A plan on a new diagram shelf, with room for so many moves.
-fn plan(heap: Global, moves: usize) -> anyhow::Result<Call> {
-    let sheet = vec![in heap; 0u8; moves]?;
+/// A plan on a new diagram shelf, with a sheet of so many bytes.
+fn plan(heap: Global, bytes: usize) -> anyhow::Result<Call>
+    ensures { IfOk result (λ c. calls.call_of c ≡ evening.planned bytes) }
+{
+    let sheet = vec![in heap; 0u8; bytes]?;
     let shelf = DiagramShelf::open(heap, &SETTINGS, NODE_SLOTS).map_err(|fault| {
         anyhow!("the shelf of the evening does not open: {fault}")
     })?;
@@ -75,15 +81,19 @@ fn plan(heap: Global, moves: usize) -> anyhow::Result<Call> {
     })
 }
 
-/// The calls of the evening: its moves are added, and after that its cases come one by one.
-pub(crate) fn cues(heap: Global) -> anyhow::Result<Vec<Call>> {
+/// The calls of the evening: its moves are added, and its cases come one after another.
+pub(crate) fn cues(heap: Global) -> anyhow::Result<Vec<Call>>
+    ensures { IfOk result (λ cues. map calls.call_of (vec_items cues) ≡ evening.calls) }
+{
     let mut cues = Vec::new(heap);
-    for (number, draft) in MOVES.iter().enumerate() {
-        cues.push(add(number, draft))?;
-    }
+    cues.push(add(0, &MOVES[0]))?;
+    cues.push(add(1, &MOVES[1]))?;
+    cues.push(add(2, &MOVES[2]))?;
+    cues.push(add(3, &MOVES[3]))?;
     cues.push(want(heap, 0b011, 0b100)?)?;
     cues.push(plan(heap, 16)?)?;
     cues.push(plan(heap, 2)?)?;
+    cues.push(plan(heap, 3)?)?;
     cues.push(withdraw(0))?;
     cues.push(plan(heap, 16)?)?;
     cues.push(add(0, &MOVES[0]))?;
@@ -96,6 +106,7 @@ pub(crate) fn cues(heap: Global) -> anyhow::Result<Vec<Call>> {
     cues.push(withdraw(3))?;
     cues.push(plan(heap, 16)?)?;
     cues.push(want(heap, 0b011, 0b1000)?)?;
+    cues.push(want(heap, 0b011, 0)?)?;
     cues.push(want(heap, 0b011, 0b111)?)?;
     cues.push(plan(heap, 16)?)?;
     Ok(cues)
