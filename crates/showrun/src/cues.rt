@@ -12,7 +12,7 @@ use show::cue::Cue;
 use std::alloc::Global;
 
 /// A call of the evening, with a diagram shelf for a plan.
-type Call = Cue<'static, DiagramShelf>;
+pub(crate) type Call = Cue<'static, DiagramShelf>;
 
 /// How many node slots the shelf of a plan has.
 const NODE_SLOTS: usize = 512;

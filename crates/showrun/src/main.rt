@@ -3,23 +3,16 @@
 
 mod cues;
 mod evening;
+mod playing;
 mod print;
 
 use cues::cues;
+use playing::play_evening;
 use print::answered;
-use show::play::show;
 
 fn main(rt: HostRuntime) -> anyhow::Result<()> {
-    let slots = vec![in rt.alloc(); None; evening::SLOTS]?;
     let mut cues = cues(rt.alloc())?;
-    show(
-        &evening::SETTINGS,
-        &evening::NAMES,
-        &evening::SCENE,
-        slots,
-        cues.as_mut_slice(),
-    )
-    .map_err(|refused| refused.fault)?;
+    play_evening(rt.alloc(), cues.as_mut_slice())?;
     for cue in cues.as_slice() {
         answered(&rt, cue)?;
     }
