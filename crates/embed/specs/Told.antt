@@ -60,6 +60,25 @@ roomless call target first second third round move =
       byte = 0;
     }
 
+-- what is known of a refusal, with the numbers of a call that joins two pegs
+abbrev pub joined_told : PlanAnswer → ℕ → ℕ → ℕ → ℕ → PlanAnswer
+joined_told known call target left right =
+    record {
+      verdict = known.verdict;
+      refusal = known.refusal;
+      call = call;
+      target = target;
+      first = left;
+      second = right;
+      third = known.third;
+      in_move = known.in_move;
+      number = known.number;
+      moves = known.moves;
+      time = known.time;
+      rounds = known.rounds;
+      byte = known.byte;
+    }
+
 abbrev pub no_room_told : Hanging → ℕ → Option ℕ → PlanAnswer
 no_room_told (Dial target device entries) = roomless 1 target device 0 0
 no_room_told (Cheaper target left right) = roomless 2 target left right 0

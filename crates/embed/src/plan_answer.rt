@@ -1,6 +1,6 @@
 //! What a plan says, in numbers.
 ghost use Rattle.std.specs.Prelude.{◌≡◌};
-ghost use Rattle.embed.specs.Told.{plan_told, unplanned_told, no_rig_told, no_shelf_told, sent_back_told, no_room_told, plain};
+ghost use Rattle.embed.specs.Told.{joined_told, plan_told, unplanned_told, no_rig_told, no_shelf_told, sent_back_told, no_room_told, plain};
 
 use crate::unfiled::Unfiled;
 use crate::unplanned::Unplanned;
@@ -65,6 +65,19 @@ fn refused(refusal: u8) -> PlanAnswer
     }
 }
 
+/// What is known of a refusal, with the numbers of a call that joins two pegs.
+fn joined(known: PlanAnswer, call: u8, target: u8, left: u8, right: u8) -> PlanAnswer
+    ensures { result ≡ joined_told known call target left right }
+{
+    PlanAnswer {
+        call,
+        target,
+        first: left,
+        second: right,
+        ..known
+    }
+}
+
 /// A refusal for want of room: the call that was refused, its round, and the move that was worked on, if one was.
 fn no_room(call: Hanging, rounds: u64, number: Option<u8>) -> PlanAnswer
     ensures { result ≡ no_room_told call rounds number }
@@ -86,24 +99,12 @@ fn no_room(call: Hanging, rounds: u64, number: Option<u8>) -> PlanAnswer
             target,
             left,
             right,
-        } => PlanAnswer {
-            call: 2,
-            target,
-            first: left,
-            second: right,
-            ..known
-        },
+        } => joined(known, 2, target, left, right),
         Hanging::Sum {
             target,
             left,
             right,
-        } => PlanAnswer {
-            call: 3,
-            target,
-            first: left,
-            second: right,
-            ..known
-        },
+        } => joined(known, 3, target, left, right),
         Hanging::Put {
             target,
             source,
