@@ -1,5 +1,6 @@
 //! What comes of a rig file.
-ghost use Rattle.std.specs.Prelude.{◌≡◌, Some, IfSome};
+ghost use Rattle.std.specs.Prelude.{◌≡◌, Some, Ok, Err, IfSome, MatchOption};
+ghost use Rattle.report.specs.declared.told.Told.{Told};
 ghost use Rattle.planfile.specs.Coming.{Comes};
 ghost use Rattle.planfile.specs.Outcomes.{outcome_text, status as the_status};
 
@@ -34,7 +35,9 @@ impl Outcome {
     }
 
     /// Why there is no plan, where there is none.
-    pub fn failure(&self) -> Option<&Failure> {
+    pub fn failure(&self) -> Option<&Failure>
+        ensures why { MatchOption result ((told : Told) × (self.now.told ≡ Ok told)) (λ failure. self.now.told ≡ Err failure.now) }
+    {
         self.told.as_ref().err()
     }
 }
