@@ -155,33 +155,28 @@ impl Row {
         std::iter::once(base).chain(ratios).collect()
     }
 
+    /// The cells of its line, from the name on; a tab stands between those of a file, which has the devices too.
+    fn cells(&self, devices: Option<usize>, none: &str) -> Vec<String> {
+        let counts = [
+            self.moves.to_string(),
+            self.rounds.to_string(),
+            self.fill.to_string(),
+            self.nodes.to_string(),
+        ];
+        std::iter::once(self.name.clone())
+            .chain(devices.map(|devices| devices.to_string()))
+            .chain(std::iter::once(self.scenes.to_string()))
+            .chain(counts)
+            .chain(self.written(none))
+            .collect()
+    }
+
     pub fn tabbed(&self) -> String {
-        let Row {
-            name,
-            devices,
-            scenes,
-            moves,
-            rounds,
-            fill,
-            nodes,
-            ..
-        } = self;
-        let cells = self.written("").join("\t");
-        format!("{name}\t{devices}\t{scenes}\t{moves}\t{rounds}\t{fill}\t{nodes}\t{cells}")
+        self.cells(Some(self.devices), "").join("\t")
     }
 
     fn line(&self) -> String {
-        let Row {
-            name,
-            scenes,
-            moves,
-            rounds,
-            fill,
-            nodes,
-            ..
-        } = self;
-        let cells = self.written("–").join(" | ");
-        format!("| {name} | {scenes} | {moves} | {rounds} | {fill} | {nodes} | {cells} |")
+        format!("| {} |", self.cells(None, "–").join(" | "))
     }
 }
 
