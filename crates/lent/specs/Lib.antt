@@ -1,0 +1,3 @@
+pub mod Kids
+pub mod Held
+pub mod Told
