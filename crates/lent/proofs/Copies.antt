@@ -2,7 +2,7 @@
 use Rattle.std.proofs.Common.{◌≡◌, ℕ, zero, suc, ◌+◌, ◌*◌, ◌<◌, false, List, [], ◌∷◌, length, get_or, take, drop, set, Some, None, Option, sym, refl, ap, ◌∙◌, subst, inl, inr, arith}
 use Rattle.std.specs.List.{AllByRecursion, flat_map}
 use Rattle.std.proofs.lemmas.List.{drop_more, drop_all, get_or-map}
-use Rattle.table.specs.Tables.{Kept, Empty}
+use Rattle.table.specs.Tables.{Kept}
 use Rattle.nodes.specs.declared.edge.Edge.{Edge}
 use Rattle.nodes.specs.declared.node.Node.{Node}
 use Rattle.model.specs.Charts.{Time, Chart, plus, late}
@@ -140,9 +140,6 @@ moved_noted {source} {nodes} {shape} before after {l} {e} m side store old st no
         let s : Side source shape l d = record { store = side.store; lt = side.lt; fine = subst (λ i. Fine source (drop i shape) i d) same f } in
         let t = copy_stands s store m (st.0, st.1 ∙ ap (λ i. body source (drop l shape) (node_at source i)) (sym there)) in
         subst (λ i. Stands nodes shape i (chart source (drop i shape) d) (record { weight = d.weight; child = j })) (sym same) (subst (λ c. Stands nodes shape l (chart source (drop l shape) d) (record { weight = d.weight; child = c })) (sym r) t)
-
-pub moved_none : (source nodes : List (Option Node)) (shape : Shape) (moved : List (Option ℕ)) → Empty moved → Moved source nodes shape moved
-moved_none source nodes shape moved empty k j h = absurd (let e = empty k in let z : ◌≡◌ {A = ℕ} 0 1 = cc in omega arith)
 
 -- The loop
 

@@ -2,6 +2,8 @@
 pub mod Growing
 pub mod Levels
 pub mod Fans
+-- slots and pegs that hold nothing: Empties
+pub mod Empties
 -- what is remembered: Recalls; two edges with times joined: Joining
 pub mod Recalls
 pub mod Joining

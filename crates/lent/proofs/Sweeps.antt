@@ -19,7 +19,7 @@ use Rattle.store.specs.Stores.{chart}
 use Rattle.store.specs.Fillings.{Stuck, Owned, name}
 use Rattle.store.proofs.Grows.{name_kept}
 use Rattle.store.proofs.Fits.{overfull}
-use Rattle.build.specs.Builds.{NodeTable, Ready, Grows, Built}
+use Rattle.build.specs.Builds.{Ready, Grows, Built}
 use Rattle.build.proofs.Steps.{get_or_in}
 use Rattle.pegs.specs.Held.{peg_chart, pegs_of, peg_fine, Swept}
 use Rattle.pegs.proofs.Sweeps.{chart_in, held_room, pegs_fine_kept, pegs_kept}
@@ -27,17 +27,6 @@ use Rattle.lent.specs.Held.{Held, Collected, CopiesPeg}
 use Rattle.lent.proofs.Growing.{ready_after}
 
 -- The sweep
-
--- slots without nodes
-pub ready_none : {source : List (Option Node)} (spare : List (Option Node)) {shape : Shape} → Ready source shape → length spare ≡ length source → NodeTable spare → Empty spare → Ready spare shape
-ready_none spare ready size table empty = record {
-  table = table;
-  store = record { apart = table.apart; proper = λ k x h. absurd (both_ways (is_some (slot spare k)) (ap is_some (empty k)) (ap is_some h)) };
-  small = subst (λ n. n ≤ 65536) (sym size) ready.small;
-  some = ready.some;
-  few = ready.few;
-  short = ready.short;
-}
 
 pub swept_none : (source spare : List (Option Node)) (shape : Shape) (pegs : List (Option Edge)) → length spare ≡ length source → Empty spare → Swept source spare shape pegs pegs 0
 swept_none source spare shape pegs size empty = record {

@@ -9,6 +9,9 @@ mod copying;
 mod dialling;
 pub mod hanging;
 mod joins;
+pub mod opening;
 pub mod paths;
 mod putting;
 mod sweeping;
+#[cfg(test)]
+mod tests;

@@ -2,7 +2,7 @@ use Rattle.std.proofs.Common.{◌≡◌, List, Option, sym, ap, ◌∙◌, subst
 use Rattle.nodes.specs.declared.node.Node.{Node}
 use Rattle.model.specs.Shelves.{charts}
 use Rattle.store.specs.Fillings.{Owned}
-use Rattle.lent.proofs.Recalls.{knows_none}
+use Rattle.lent.proofs.Empties.{knows_none}
 use Rattle.pegs.specs.Held.{pegs_of}
 use Rattle.lent.specs.Held.{Held}
 use Rattle.lent.proofs.hanging.collect.Goals as goal

@@ -1,12 +1,25 @@
-use Rattle.std.proofs.Common.{rules}
-use Rattle.lent.proofs.Copies.{moved_none}
-use Rattle.lent.proofs.Sweeps.{ready_none, swept_none}
+use Rattle.std.proofs.Common.{◌≡◌, ◌≤◌, length, sym, subst, rules}
+use Rattle.lent.proofs.Empties.{store_none, moved_none}
+use Rattle.lent.proofs.Sweeps.{swept_none}
 use Rattle.lent.proofs.sweeping.sweep.Goals as goal
 
 pub copy_pegs-requires : goal.copy_pegs-requires
-copy_pegs-requires c = record {
-  held = c.requires.held;
-  ready = ready_none c.clear.new.slots c.requires.held.ready (search rules) c.clear.ensures.table c.clear.ensures.empty;
-  start = swept_none c.args.source.now c.clear.new.slots c.args.settings.now c.args.pegs.now (search rules) c.clear.ensures.empty;
-  moved = moved_none c.args.source.now c.clear.new.slots c.args.settings.now c.forget.new.moved c.forget.ensures;
-}
+copy_pegs-requires c =
+    let spare = c.clear.new.slots in
+    let shape = c.args.settings.now in
+    let ready = c.requires.held.ready in
+    let empty = c.clear.ensures.empty in
+    let size : length spare ≡ length c.args.source.now = search rules in
+    record {
+      held = c.requires.held;
+      ready = record {
+        table = c.clear.ensures.table;
+        store = store_none spare shape c.clear.ensures.table empty;
+        small = subst (λ n. n ≤ 65536) (sym size) ready.small;
+        some = ready.some;
+        few = ready.few;
+        short = ready.short;
+      };
+      start = swept_none c.args.source.now spare shape c.args.pegs.now size empty;
+      moved = moved_none c.args.source.now spare shape c.forget.new.moved c.forget.ensures;
+    }
