@@ -109,9 +109,11 @@ module _ (source spare new : List (Option Node)) (shape : Shape) (old pegs : Lis
             (subst (peg_fine new shape) (sym c.1) tt) (ap (peg_chart new shape) c.1 ∙ sym (ap (peg_chart source shape) at))
         go (Some e) at c = copied e at c.grows r c.built
 
-pub swept_all : (source spare : List (Option Node)) (shape : Shape) (old pegs : List (Option Edge)) (i : ℕ) → length pegs ≤ i → Ready spare shape → Swept source spare shape old pegs i → Collected source spare shape old pegs
-swept_all source spare shape old pegs i h ready w = record {
-  held = record { ready = ready; fine = subst (AllByRecursion (peg_fine spare shape)) (take_all i pegs h) w.fine };
-  same = ap (pegs_of spare shape) (sym (take_all i pegs h)) ∙ w.same ∙ ap (pegs_of source shape) (take_all i old (omega (arith, h, w.long)));
-  owned = w.owned;
-}
+pub swept_all : {source spare : List (Option Node)} {shape : Shape} {old pegs : List (Option Edge)} → Ready spare shape → Swept source spare shape old pegs (length old) → Collected source spare shape old pegs
+swept_all {source} {spare} {shape} {old} {pegs} ready w =
+    let most : length pegs ≤ length old = omega (arith, w.long) in
+    record {
+      held = record { ready = ready; fine = subst (AllByRecursion (peg_fine spare shape)) (take_all (length old) pegs most) w.fine };
+      same = ap (pegs_of spare shape) (sym (take_all (length old) pegs most)) ∙ w.same ∙ ap (pegs_of source shape) (take_all (length old) old (omega arith));
+      owned = w.owned;
+    }

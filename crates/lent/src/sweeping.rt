@@ -42,7 +42,8 @@ fn copy_pegs(
     requires ready { Ready spare.old settings.now }
     requires start { Swept source.now spare.old settings.now pegs.old pegs.old 0 }
     requires moved { Moved source.now spare.old settings.now moved.old }
-    ensures { Collected source.now spare.new settings.now pegs.old pegs.new }
+    ensures ready { Ready spare.new settings.now }
+    ensures swept { Swept source.now spare.new settings.now pegs.old pegs.new (length pegs.old) }
 {
     for peg in pegs.iter_mut() {
         *peg = copy_peg(source, spare, moved, settings, *peg);

@@ -1,5 +1,5 @@
 use Rattle.std.proofs.Common.{arith}
-use Rattle.lent.proofs.Sweeps.{next_fine, swept_ready, swept_more, swept_all}
+use Rattle.lent.proofs.Sweeps.{next_fine, swept_ready, swept_more}
 use Rattle.lent.proofs.sweeping.copy_pegs.Goals as goal
 
 pub copy_peg-requires : goal.copy_peg-requires
@@ -21,8 +21,3 @@ loop-peg-preserved c =
       swept = swept_more c.args.source.now c.loop-peg.spare c.copy_peg.new.nodes c.args.settings.now c.args.pegs.now c.loop-peg.pegs c.loop-peg.peg-index c.requires.held (omega arith) at.ready at.swept c.copy_peg.result got.copies;
       moved = got.moved;
     }
-
-pub returns : goal.returns
-returns c =
-    let at = c.loop-peg.invariant in
-    swept_all c.args.source.now c.loop-peg.spare c.args.settings.now c.args.pegs.now c.loop-peg.pegs c.loop-peg.peg-index (omega arith) at.ready at.swept

@@ -1,6 +1,6 @@
 use Rattle.std.proofs.Common.{◌≡◌, ◌≤◌, length, sym, subst, rules}
 use Rattle.lent.proofs.Empties.{store_none, moved_none}
-use Rattle.lent.proofs.Sweeps.{swept_none}
+use Rattle.lent.proofs.Sweeps.{swept_none, swept_all}
 use Rattle.lent.proofs.sweeping.sweep.Goals as goal
 
 pub copy_pegs-requires : goal.copy_pegs-requires
@@ -23,3 +23,6 @@ copy_pegs-requires c =
       start = swept_none c.args.source.now spare shape c.args.pegs.now size empty;
       moved = moved_none c.args.source.now spare shape c.forget.new.moved c.forget.ensures;
     }
+
+pub returns : goal.returns
+returns c = swept_all c.copy_pegs.ensures.ready c.copy_pegs.ensures.swept
