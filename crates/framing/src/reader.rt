@@ -1,5 +1,5 @@
 //! Items taken off the front of bytes, or passed over.
-ghost use Rattle.std.specs.Prelude.{◌≡◌, ◌<◌, [], ◌∷◌, ◌++◌, length, MatchBool, MatchOption};
+ghost use Rattle.std.specs.Prelude.{◌≡◌, ◌<◌, [], ◌∷◌, ◌++◌, length, None, MatchBool, MatchOption};
 ghost use Rattle.std.specs.List.{flat_map};
 ghost use Rattle.format.specs.Bytes.{two};
 ghost use Rattle.format.specs.Files.{surcharge as surcharge_bytes, entry as entry_bytes};
@@ -20,6 +20,7 @@ pub struct Reader<'a> {
     pub rest: &'a [u8],
 }
 
+// What is made of several parts is taken from a copy of the reader, so that the reader stays as it was where one is missing.
 impl<'a> Reader<'a> {
     /// Takes a part of so many bytes, as it stands.
     pub fn part(&mut self, count: usize) -> Option<&'a [u8]>
@@ -53,19 +54,25 @@ impl<'a> Reader<'a> {
 
     /// Takes what stands before the tests of a surcharge.
     pub fn toll(&mut self) -> Option<Toll>
-        ensures { Takes toll_bytes result self.old.rest.now self.new.rest.now }
+        ensures taken { Takes toll_bytes result self.old.rest.now self.new.rest.now }
+        ensures kept { result ≡ None → self.new.rest.now ≡ self.old.rest.now }
     {
-        let [count] = self.take::<1>()?;
-        let extra = self.number()?;
+        let mut ahead = Reader { rest: self.rest };
+        let [count] = ahead.take::<1>()?;
+        let extra = ahead.number()?;
+        self.rest = ahead.rest;
         Some(Toll { count, extra })
     }
 
     /// Takes what stands before the lists of a move.
     pub fn head(&mut self) -> Option<Head>
-        ensures { Takes head_bytes result self.old.rest.now self.new.rest.now }
+        ensures taken { Takes head_bytes result self.old.rest.now self.new.rest.now }
+        ensures kept { result ≡ None → self.new.rest.now ≡ self.old.rest.now }
     {
-        let [number, conditions, effects, surcharges] = self.take::<4>()?;
-        let base = self.number()?;
+        let mut ahead = Reader { rest: self.rest };
+        let [number, conditions, effects, surcharges] = ahead.take::<4>()?;
+        let base = ahead.number()?;
+        self.rest = ahead.rest;
         Some(Head {
             number,
             conditions,
@@ -77,13 +84,16 @@ impl<'a> Reader<'a> {
 
     /// Takes what stands before everything else.
     pub fn header(&mut self) -> Option<Header>
-        ensures { Takes opening result self.old.rest.now self.new.rest.now }
+        ensures taken { Takes opening result self.old.rest.now self.new.rest.now }
+        ensures kept { result ≡ None → self.new.rest.now ≡ self.old.rest.now }
     {
-        let [version, devices, moves, zero] = self.take::<4>()?;
-        let first = self.number()?;
-        let second = self.number()?;
-        let third = self.number()?;
-        let total = self.number()?;
+        let mut ahead = Reader { rest: self.rest };
+        let [version, devices, moves, zero] = ahead.take::<4>()?;
+        let first = ahead.number()?;
+        let second = ahead.number()?;
+        let third = ahead.number()?;
+        let total = ahead.number()?;
+        self.rest = ahead.rest;
         Some(Header {
             version,
             devices,
