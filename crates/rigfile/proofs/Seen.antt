@@ -1,6 +1,6 @@
 -- The moves of the code, as bytes. Assumes nothing.
 use Rattle.std.proofs.Common.{◌≡◌, ℕ, ◌+◌, ◌*◌, ◌≤◌, List, [], ◌∷◌, ◌++◌, map, length, Some, sym, refl, ap, ◌∙◌, append-nil, arith, length-append}
-use Rattle.std.specs.List.{flat_map}
+use Rattle.std.specs.List.{flat_map, AllByRecursion}
 use Rattle.std.proofs.lemmas.List.{length-map, length-take}
 use Rattle.std.proofs.lemmas.List.Folds.{flat_map-map}
 use Rattle.lists.specs.declared.short.Short.{Short}
@@ -17,6 +17,11 @@ use Rattle.format.proofs.Sizes.{surcharge_long, entry_long}
 use Rattle.rigfile.specs.declared.writer.Writer.{Writer}
 use Rattle.rigfile.proofs.Written.{Ahead, begin, room, turn}
 use Rattle.rigfile.specs.Writing.{Room, Puts, pair_bytes, surcharge_bytes, slot_bytes}
+
+-- what all items of a map have
+pub all_of_map : {X Y : Type 0} (P : Y → Type 0) (f : X → Y) (xs : List X) → AllByRecursion P (map f xs) → AllByRecursion (λ x. P (f x)) xs
+all_of_map P f [] h = tt
+all_of_map P f (x ∷ xs) h = (h.0, all_of_map P f xs h.1)
 
 -- pairs of the code
 module _ (ps : List Pair) (qs : List model.Pair) (seen : pairs_of ps ≡ qs) where
