@@ -20,7 +20,10 @@ impl Draft<'_> {
         ensures { Judged (move_checks settings.now (draft_of self.now)) (λ m. move_of m ≡ draft_of self.now) result }
     {
         judge_pairs(self.conditions, self.effects, self.surcharges, settings)?;
-        let entry = self.bounded().ok_or(RigFault::LengthsOff)?;
+        // No `ok_or` and `?`: a move is large, and each of them copies it once more.
+        let Some(entry) = self.bounded() else {
+            return Err(RigFault::LengthsOff);
+        };
         if times_off(self.base, self.surcharges) {
             return Err(RigFault::TimesOff);
         }
@@ -37,7 +40,9 @@ pub fn lawful_times(
     ensures { Judged (timing_checks settings.now base (charges_of charges.now)) (λ xs. map surcharge_of (listed xs) ≡ charges_of charges.now) result }
 {
     judge_pairs(&[], &[], charges, settings)?;
-    let surcharges = bounded_all(charges).ok_or(RigFault::LengthsOff)?;
+    let Some(surcharges) = bounded_all(charges) else {
+        return Err(RigFault::LengthsOff);
+    };
     if times_off(base, charges) {
         return Err(RigFault::TimesOff);
     }
