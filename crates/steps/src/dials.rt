@@ -3,6 +3,7 @@ ghost use Rattle.std.specs.Prelude.{◌≡◌, Some};
 ghost use Rattle.rule.specs.Steps.{entry, entries, admitted as the_admitted, dearer as the_dearer};
 
 use lists::limits::MOST_SETTINGS;
+use lists::places::set_in;
 use moves::masks::admits;
 use std::array;
 
@@ -14,11 +15,9 @@ pub fn only_at(
 ) -> [Option<u64>; MOST_SETTINGS]
     ensures { result ≡ entries (entry setting there elsewhere) }
 {
-    array::from_fn(|at| if at == usize::from(setting) {
-        there
-    } else {
-        elsewhere
-    })
+    let mut all = [elsewhere; MOST_SETTINGS];
+    set_in(&mut all, usize::from(setting), there);
+    all
 }
 
 /// An extra at a setting, 0 elsewhere.

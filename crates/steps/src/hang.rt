@@ -50,7 +50,11 @@ impl<'a, S: Shelf> Round<'a, S> {
         ensures took { Took S.meaning self.old (call_of call ∷ []) result self.new }
     {
         let round = self.number;
-        made(self.shelf, call).map_err(|fault| Halt { fault, call, round })
+        // No `map_err`: its closure would take a copy of the call, whether it is refused or not.
+        if let Err(fault) = made(self.shelf, call) {
+            return Err(Halt { fault, call, round });
+        }
+        Ok(())
     }
 
     /// Hangs the chart that gives a scene the entry of the device's setting.
