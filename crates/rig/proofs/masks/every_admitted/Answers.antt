@@ -1,13 +1,24 @@
-use Rattle.std.proofs.Common.{◌∙◌, rules, tests}
-use Rattle.std.proofs.lemmas.Iterator.{YieldsList-from_slice, YieldsList-from_zip}
-use Rattle.std.proofs.lemmas.Iterator.Search.{all_from_yields_List}
-use Rattle.model.specs.Masks.{admits}
-use Rattle.rig.proofs.Pairs.{all_is_wanted}
+use Rattle.std.proofs.Common.{◌≡◌, ℕ, ◌+◌, ◌<◌, Bool, true, false, ◌&&◌, List, ◌∷◌, length, get_or, drop, sym, ap, ◌∙◌, arith}
+use Rattle.std.proofs.lemmas.List.{drop_more, at_drop_all}
+use Rattle.model.specs.Masks.{admits, wanted}
 use Rattle.rig.proofs.masks.every_admitted.Goals as goal
+
+-- what is left from i, by whether the setting at i is admitted
+step : (ms s : List ℕ) (i : ℕ) (b : Bool) → i < length ms → i < length s → b ≡ admits (get_or ms i 0) (get_or s i 0)
+    → wanted (drop i ms) (drop i s) ≡ (b && wanted (drop (i + 1) ms) (drop (i + 1) s))
+step ms s i b lm ls e =
+    ap (λ (t : List ℕ). wanted t (drop i s)) (drop_more ms i 0 lm)
+    ∙ ap (λ (t : List ℕ). wanted (get_or ms i 0 ∷ drop (i + 1) ms) t) (drop_more s i 0 ls)
+    ∙ ap (λ (t : Bool). t && wanted (drop (i + 1) ms) (drop (i + 1) s)) (sym e)
+
+pub returns-then-not-admits : goal.returns-then-not-admits
+returns-then-not-admits c =
+    sym (step c.args.masks.now c.args.scene.now c.loop-i.i false (omega arith) (omega arith) c.if-not-admits.ensures) ∙ c.loop-i.invariant
+
+pub loop-i-preserved : goal.loop-i-preserved
+loop-i-preserved c =
+    sym (step c.args.masks.now c.args.scene.now c.loop-i.i true (omega arith) (omega arith) c.if-not-admits.ensures) ∙ c.loop-i.invariant
 
 pub returns : goal.returns
 returns c =
-    let ms = c.args.masks.now in
-    let s = c.args.scene.now in
-    all_from_yields_List (λ p. admits p.0 p.1) c.all.new.self _ _ c.all.ensures.ran (YieldsList-from_zip (YieldsList-from_slice ms cc) (YieldsList-from_slice s cc)) (λ x b q k. search (rules, tests))
-    ∙ all_is_wanted ms s
+    sym (at_drop_all (λ (t : List ℕ). wanted t (drop c.loop-i.i c.args.scene.now)) c.args.masks.now c.loop-i.i c.loop-i-test.false) ∙ c.loop-i.invariant
