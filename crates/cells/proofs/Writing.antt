@@ -1,5 +1,5 @@
 -- The turns of loops that write cells, runs and blocks. Assumes nothing.
-use Rattle.std.proofs.Common.{◌≡◌, ℕ, suc, ◌+◌, ◌-◌, ◌*◌, ◌++◌, take, drop, replicate, ◌<◌, ◌≤◌, ◌≢◌, ◌⊎◌, List, length, get_or, set, None, sym, ap, subst, ◌∙◌, inl, inr, ⊎_elim, suc-mul, add-one, arith, below_more}
+use Rattle.std.proofs.Common.{◌≡◌, ℕ, suc, ◌+◌, ◌-◌, ◌*◌, ◌++◌, take, drop, replicate, ◌<◌, ◌≤◌, ◌≢◌, ◌⊎◌, List, length, get_or, set, None, sym, ap, subst, ◌∙◌, inl, inr, ⊎_elim, refl, suc-mul, add-one, arith, below_more}
 use Rattle.std.proofs.lemmas.Nat.{mul-le}
 use Rattle.std.proofs.lemmas.List.{get_or-set_same, get_or-set_other, get_or-take, get_or-drop, get_or-append-add, length-take-le, length-drop, length-replicate, get_or-replicate}
 use Rattle.std.proofs.lemmas.Slice.{take-put_mid, take-put_mid_below, drop-put_mid}
@@ -22,6 +22,16 @@ pub one_row_more : (a n : ℕ) → (a + 1) * n ≡ a * n + n
 one_row_more a n = ap (λ k. k * n) (add-one a) ∙ suc-mul a n
 
 -- Cells
+
+-- nothing is written where there is no cell, no run or no block
+pub written_none : (base : ℕ) (f : ℕ → Time) (old : List Time) → Written 0 base f old old
+written_none base f old = record { inside = λ k h. absurd (omega arith); outside = λ k h. refl }
+
+pub runs_none : (w base : ℕ) (f : ℕ → ℕ → Time) (old : List Time) → Runs 0 w base f old old
+runs_none w base f old = record { inside = λ d r h l. absurd (omega arith); outside = λ k h. refl }
+
+pub blocks_none : (n w base : ℕ) (f : ℕ → ℕ → ℕ → Time) (old : List Time) → Blocks 0 n w base f old old
+blocks_none n w base f old = record { inside = λ b d r h k l. absurd (omega arith); outside = λ k h. refl }
 
 pub written_more : (i base : ℕ) (f : ℕ → Time) (old now : List Time) (v : Time) → base + i < length now → Written i base f old now → v ≡ f i → Written (i + 1) base f old (set now (base + i) v)
 written_more i base f old now v l w e =

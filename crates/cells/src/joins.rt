@@ -14,6 +14,7 @@ pub trait Join {
 }
 
 /// The lesser of two entries, any time being less than never.
+#[derive(Clone, Copy)]
 pub struct Lesser;
 
 impl Join for Lesser {
@@ -25,6 +26,7 @@ impl Join for Lesser {
 }
 
 /// The sum of two entries, never if either is never.
+#[derive(Clone, Copy)]
 pub struct Sum;
 
 impl Join for Sum {

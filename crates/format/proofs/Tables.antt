@@ -14,6 +14,12 @@ entries_rise n [] = tt
 entries_rise n (None ∷ slots) = rising_less n (n + 1) (entries (n + 1) slots) (omega arith) (entries_rise (n + 1) slots)
 entries_rise n (Some m ∷ slots) = (omega arith, entries_rise (n + 1) slots)
 
+-- no more moves than slots
+pub entries_few : (n : ℕ) (slots : List (Option Move)) → length (entries n slots) ≤ length slots
+entries_few n [] = omega arith
+entries_few n (None ∷ slots) = let h = entries_few (n + 1) slots in omega (arith, h)
+entries_few n (Some m ∷ slots) = let h = entries_few (n + 1) slots in omega (arith, h)
+
 -- moves placed behind slots that are filled already
 placed_behind : (n : ℕ) (done slots : List (Option Move)) → length done ≡ n → placed (entries n slots) (done ++ replicate (length slots) None) ≡ done ++ slots
 placed_behind n done [] l = refl
