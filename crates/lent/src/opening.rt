@@ -28,6 +28,7 @@ pub fn open(
     requires short { length settings.now ≤ 12 }
     requires small { length nodes.old ≤ 65536 }
     ensures free { Empty nodes.new }
+    ensures forgotten { Empty memo.new }
     ensures bare { Empty pegs.new }
     ensures held { Held nodes.new settings.now pegs.new }
     ensures knows { Knows nodes.new settings.now memo.new }
